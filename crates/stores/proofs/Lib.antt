@@ -1,0 +1,3 @@
+pub mod SetAnswers
+pub mod GridCells
+pub mod MaskFills

@@ -1,0 +1,58 @@
+-- A cell is unknown or a number of hundredths of log-odds from -200 to 350.
+use Prim.Native.Nat.{ℕ}
+use mathlib.Core.Bool.{Bool, true, false, _&&_, cond}
+use lib.Dec.{eqb}
+use lib.IntN.{ℤ, pos, negsuc, _+ℤ_}
+use lib.Signed.{ltZ, leZ}
+use Rattle.voxels.specs.declared.cells.Cell.{Cell}
+use Rattle.voxels.specs.declared.cells.Cell.the-variants.{Unknown, Known}
+use Rattle.voxels.specs.declared.cells.Event.{Event}
+use Rattle.voxels.specs.declared.cells.Event.the-variants.{Hit, Miss}
+use Rattle.voxels.specs.declared.cells.State.{State}
+
+abbrev pub lowest : ℤ
+lowest = negsuc 199
+
+abbrev pub highest : ℤ
+highest = pos 350
+
+abbrev pub inRange : Cell → Bool
+inRange Unknown = true
+inRange (Known v) = leZ lowest v && leZ v highest
+
+-- an unknown cell counts as 0
+abbrev pub logOdds : Cell → ℤ
+logOdds Unknown = pos 0
+logOdds (Known v) = v
+
+abbrev pub change : Event → ℤ
+change Hit = pos 85
+change Miss = negsuc 39
+
+abbrev pub clamped : ℤ → ℤ
+clamped v = cond (ltZ v lowest) lowest (cond (ltZ highest v) highest v)
+
+abbrev pub updated : Cell → Event → Cell
+updated c e = Known (clamped (logOdds c +ℤ change e))
+
+-- 0 and more is occupied
+abbrev pub stateOf : Cell → State
+stateOf Unknown = State.Unknown
+stateOf (Known v) = cond (ltZ v (pos 0)) State.Free State.Occupied
+
+abbrev pub sameNumber : ℤ → ℤ → Bool
+sameNumber (pos m) (pos n) = eqb m n
+sameNumber (pos m) (negsuc n) = false
+sameNumber (negsuc m) (pos n) = false
+sameNumber (negsuc m) (negsuc n) = eqb m n
+
+-- unknown equals only unknown
+abbrev pub sameCell : Cell → Cell → Bool
+sameCell Unknown Unknown = true
+sameCell Unknown (Known n) = false
+sameCell (Known m) Unknown = false
+sameCell (Known m) (Known n) = sameNumber m n
+
+-- the cells of a map are a function from the index; with the cell at i replaced
+abbrev pub put : (ℕ → Cell) → ℕ → Cell → ℕ → Cell
+put cells i c j = cond (eqb j i) c (cells j)

@@ -1,0 +1,6 @@
+pub mod Bounded
+pub mod Space
+pub mod Cells
+pub mod Cubes
+pub mod Refusals
+pub mod Pages

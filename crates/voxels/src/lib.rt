@@ -1,0 +1,31 @@
+// Voxels and their index, cells and their update, cubes and blocks, refusals, and the guard of a lent work page.
+mod cells;
+mod cubes;
+mod pages;
+mod refusals;
+mod space;
+
+pub use cells::Cell;
+pub use cells::CellDebug;
+pub use cells::CellEq;
+pub use cells::CellPartialEq;
+pub use cells::Event;
+pub use cells::State;
+pub use cells::StateDebug;
+pub use cells::StateEq;
+pub use cells::StatePartialEq;
+pub use cubes::cube_at;
+pub use cubes::most_blocks;
+pub use pages::WorkPage;
+pub use pages::wipe_voxels;
+pub use refusals::Reason;
+pub use refusals::ReasonDebug;
+pub use refusals::Refusal;
+pub use refusals::RefusalDebug;
+pub use space::Position;
+pub use space::Voxel;
+pub use space::VoxelDebug;
+pub use space::VoxelEq;
+pub use space::VoxelPartialEq;
+pub use space::side;
+pub use space::voxel_count;
