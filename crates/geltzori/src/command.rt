@@ -1,5 +1,6 @@
 // The calls of a session, and how a line is read.
 ghost use mathlib.Core.Path.{_≡_};
+ghost use Prim.Native.Nat.{_≤_};
 ghost use Rattle.geltzori.specs.Words.{digitOf, pairOf, saturated, untilHash};
 ghost use Rattle.std.specs.Vec.{made};
 ghost use Rattle.std.specs.declared.result.Result.the-variants.{Ok};
@@ -8,6 +9,7 @@ use crate::faults::FlawFromAlloc;
 use crate::faults::FlawFromRefused;
 use std::alloc::AllocError;
 use std::alloc::Global;
+use std::fs;
 use std::str::FromStr;
 use voxels::Cell;
 use voxels::Event;
@@ -17,33 +19,41 @@ pub enum Command {
     Unit { depth: u8 },
     Mask(Vec<u8>),
     Call(Call),
+    // A scan whose text is in the lines that follow.
+    Scan,
 }
 
 // A call on a store that was set up.
-#[derive(Clone, Copy)]
+#[derive(Drop)]
 pub enum Call {
     Set { index: usize, value: Cell },
     Event { index: usize, event: Event },
     Read { index: usize },
     Clear,
     Show,
+    Page { words: usize },
+    Scan(Vec<u8>),
 }
 
+// A session must not be able to ask for all memory.
+const LONGEST_PAGE: usize = 65536;
+
 // The call of a line, or none where the line is blank but for a comment.
-pub fn parse(heap: Global, line: &str) -> Result<Option<Command>, Flaw> {
-    let words = words(heap, uncommented(line))?;
+pub fn parse(rt: &LibcRuntime, line: &str) -> Result<Option<Command>, Flaw> {
+    let words = words(rt.alloc(), uncommented(line))?;
     let command = match words.as_slice() {
         [] => return Ok(None),
         ["unit", "grid", depth] => Command::Unit {
             depth: number(depth)?,
         },
-        ["mask", hex @ ..] => Command::Mask(mask_bytes(heap, hex)?),
-        call => Command::Call(parse_call(call)?),
+        ["mask", hex @ ..] => Command::Mask(hex_bytes(rt.alloc(), hex)?),
+        ["scan"] => Command::Scan,
+        call => Command::Call(parse_call(rt, call)?),
     };
     Ok(Some(command))
 }
 
-fn parse_call(words: &[&str]) -> Result<Call, Flaw> {
+fn parse_call(rt: &LibcRuntime, words: &[&str]) -> Result<Call, Flaw> {
     let call = match words {
         ["set", index, value] => Call::Set {
             index: number(index)?,
@@ -62,6 +72,11 @@ fn parse_call(words: &[&str]) -> Result<Call, Flaw> {
         },
         ["clear"] => Call::Clear,
         ["show"] => Call::Show,
+        ["page", words] => Call::Page {
+            words: page_words(words)?,
+        },
+        ["scan-file", path] => Call::Scan(file_bytes(rt, path)?),
+        ["scan-hex", hex @ ..] => Call::Scan(hex_bytes(rt.alloc(), hex)?),
         _ => return Err(Flaw::Unreadable),
     };
     Ok(call)
@@ -122,7 +137,24 @@ fn saturated(number: i64) -> i16
     }
 }
 
-fn mask_bytes(heap: Global, words: &[&str]) -> Result<Vec<u8>, Flaw> {
+fn page_words(word: &str) -> Result<usize, Flaw>
+    ensures { λ r. ⌜ made r (λ n. n ≤ 65536) ⌝ }
+{
+    let words = number(word)?;
+    if words > LONGEST_PAGE {
+        return Err(Flaw::Unreadable);
+    }
+    Ok(words)
+}
+
+fn file_bytes(rt: &LibcRuntime, path: &str) -> Result<Vec<u8>, Flaw> {
+    match fs::read(rt, path) {
+        Ok(bytes) => Ok(bytes),
+        Err(_) => Err(Flaw::NoFile),
+    }
+}
+
+fn hex_bytes(heap: Global, words: &[&str]) -> Result<Vec<u8>, Flaw> {
     let mut bytes = Vec::new(heap);
     for word in words {
         push_hex(&mut bytes, word.as_bytes())?;

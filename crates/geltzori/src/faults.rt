@@ -13,6 +13,7 @@ pub enum Flaw {
     SecondUnit,
     LateMask,
     ThirdMask,
+    NoFile,
     Memory,
 }
 
@@ -25,7 +26,6 @@ pub struct Line<'a> {
 
 #[derive(Debug, Drop)]
 pub enum Fault {
-    Usage,
     Memory,
     Io(io::Error),
     Line {
@@ -56,6 +56,7 @@ pub impl fmt::Display for Flaw as FlawDisplay {
             Flaw::SecondUnit => "a second unit",
             Flaw::LateMask => "mask after other calls",
             Flaw::ThirdMask => "two masks are laid already",
+            Flaw::NoFile => "cannot read the file",
             Flaw::Memory => "out of memory",
         };
         f.write_str(words)
@@ -65,7 +66,6 @@ pub impl fmt::Display for Flaw as FlawDisplay {
 pub impl fmt::Display for Fault as FaultDisplay {
     fn fmt<W: fmt::Write>(&self, f: &mut fmt::Formatter<W>) -> fmt::Result {
         match self {
-            Fault::Usage => f.write_str("usage: geltzori [SESSION]"),
             Fault::Memory => f.write_str("out of memory"),
             Fault::Io(error) => write!(f, "{error}"),
             Fault::Line { number, flaw, text } => write!(f, "line {number}: {flaw}: {text}"),

@@ -1,4 +1,4 @@
-// geltzori [SESSION]: carries out a session of calls on a unit, and prints what each did.
+// geltzori [SESSION..]: carries out sessions of calls, each on a unit of its own, and prints what each call did.
 mod command;
 mod faults;
 mod replay;
@@ -21,20 +21,22 @@ fn main(rt: LibcRuntime) -> Result<(), Fault> {
     done
 }
 
-// The whole session is read before any of it is carried out.
 fn run(rt: &LibcRuntime) -> Result<(), Fault> {
-    let text = session_text(rt)?;
-    match Session::parse(rt.alloc(), text.as_str())? {
-        Some(session) => units::run(rt, &session),
-        None => Ok(()),
+    let mut paths = env::args(rt)?.skip(1);
+    let Some(first) = paths.next() else {
+        return carry_out(rt, io::read_to_string(rt.alloc(), rt.stdin())?);
+    };
+    carry_out(rt, fs::read_to_string(rt, first)?)?;
+    for path in paths {
+        carry_out(rt, fs::read_to_string(rt, path)?)?;
     }
+    Ok(())
 }
 
-fn session_text(rt: &LibcRuntime) -> Result<String, Fault> {
-    let mut words = env::args(rt)?.skip(1);
-    match (words.next(), words.next()) {
-        (None, _) => Ok(io::read_to_string(rt.alloc(), rt.stdin())?),
-        (Some(path), None) => Ok(fs::read_to_string(rt, path)?),
-        _ => Err(Fault::Usage),
+// The whole session is read before any of it is carried out, on a unit of its own.
+fn carry_out(rt: &LibcRuntime, text: String) -> Result<(), Fault> {
+    match Session::parse(rt, text.as_str())? {
+        Some(session) => units::run(rt, &session),
+        None => Ok(()),
     }
 }

@@ -4,6 +4,8 @@ ghost use Rattle.geltzori.specs.Pictures.{nameOf, rowOf, symbolAt, symbolOf};
 ghost use Rattle.std.specs.Of.String.{string-bytes};
 ghost use Rattle.std.specs.Vec.{made};
 use crate::command::Call;
+use scans::Scanned;
+use scans::scan;
 use std::alloc::AllocError;
 use std::alloc::Global;
 use std::io;
@@ -15,6 +17,7 @@ use voxels::Refusal;
 use voxels::State;
 use voxels::Voxel;
 use voxels::side;
+use voxels::voxel_count;
 
 pub fn introduce<S: Store>(rt: &LibcRuntime, store: &S) -> io::Result<()> {
     let letter = S::LETTER;
@@ -24,22 +27,33 @@ pub fn introduce<S: Store>(rt: &LibcRuntime, store: &S) -> io::Result<()> {
 }
 
 pub fn replay<S: Store>(rt: &LibcRuntime, store: &mut S, calls: &[Call]) -> io::Result<()> {
+    let mut page = vec![in rt.alloc(); 0u16; voxel_count(store.depth())]?;
     for call in calls {
-        carry_out(rt, store, *call)?;
+        carry_out(rt, store, &mut page, call)?;
     }
     Ok(())
 }
 
-fn carry_out<S: Store>(rt: &LibcRuntime, store: &mut S, call: Call) -> io::Result<()> {
+fn carry_out<S: Store>(
+    rt: &LibcRuntime,
+    store: &mut S,
+    page: &mut Vec<u16>,
+    call: &Call,
+) -> io::Result<()> {
     match call {
-        Call::Set { index, value } => tell(rt, "set", store.set(index, value)),
-        Call::Event { index, event } => tell(rt, name(event), apply(store, index, event)),
-        Call::Read { index } => tell_cell(rt, store.read(index)),
+        Call::Set { index, value } => tell(rt, "set", store.set(*index, *value)),
+        Call::Event { index, event } => tell(rt, name(*event), apply(store, *index, *event)),
+        Call::Read { index } => tell_cell(rt, store.read(*index)),
         Call::Clear => {
             store.clear();
             tell(rt, "clear", Ok(()))
         }
         Call::Show => show(rt, store),
+        Call::Page { words } => {
+            *page = vec![in rt.alloc(); 0u16; *words]?;
+            println!(rt, "page {words}")
+        }
+        Call::Scan(text) => tell_scan(rt, scan(store, page.as_mut_slice(), text.as_slice())),
     }
 }
 
@@ -60,6 +74,15 @@ pub fn tell(rt: &LibcRuntime, call: &str, done: Result<(), Refusal>) -> io::Resu
             let place = refusal.place;
             println!(rt, "{call} refused {number} at {place}")
         }
+    }
+}
+
+fn tell_scan(rt: &LibcRuntime, done: Result<Scanned, Refusal>) -> io::Result<()> {
+    match done {
+        Ok(Scanned { used, set, skipped }) => {
+            println!(rt, "scan ok used {used} set {set} skipped {skipped}")
+        }
+        Err(refusal) => tell(rt, "scan", Err(refusal)),
     }
 }
 

@@ -9,14 +9,14 @@ use lib.Dec.{ltb, leb, eqb}
 use lib.ListN.{length, getD, set, drop, replicate}
 use Rattle.std.proofs.shelf.Lists.{getD-set-same, getD-set-other, getD-append-left, getD-replicate, length-replicate}
 use Rattle.std.proofs.shelf.Tests.{cond-true, cond-false, cases-eq, cases-lt, eq-eqb, ne-eqb, lt-ltb, le-ltb, le-leb, and-from, and-left, and-parts}
-use Rattle.voxels.specs.Cells.{put}
+use Rattle.voxels.specs.Cells.{put, wordCell}
 use Rattle.voxels.specs.Cubes.{blocksNeeded, mostBlocks}
 use Rattle.voxels.specs.Pages.{guarded, wiped}
 use Rattle.voxels.specs.Space.{isDepth, voxelCount}
 use Rattle.voxels.specs.declared.cells.Cell.{Cell}
 use Rattle.voxels.specs.declared.cells.Cell.the-variants.{Unknown}
 use Rattle.voxels.proofs.Blocks.{within-most}
-use Rattle.stores.specs.Grids.{wordCell, gridCell, gridDepth}
+use Rattle.stores.specs.Grids.{gridCell, gridDepth}
 use Rattle.stores.specs.Sets.{isOpen}
 
 pub grid-outside : (depth : ℕ) (words : List ℕ) (i : ℕ) → voxelCount depth ≤ i → gridCell depth words i ≡ Unknown

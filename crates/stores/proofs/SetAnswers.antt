@@ -1,9 +1,10 @@
 -- Which answer a set gives, case by case.
 use mathlib.Core.Path.{_≡_, refl, ap, _∙_}
 use mathlib.Core.Bool.{Bool, true, false, not, _||_}
+use mathlib.Core.Logic.{_⊎_, inl, inr, ⊎-elim}
 use Prim.Native.Nat.{ℕ, _≤_, _<_}
 use lib.Dec.{ltb}
-use Rattle.std.proofs.shelf.Tests.{cond-true, cond-false, not-from-true, not-from-false, lt-ltb, le-ltb, and-right, or-right}
+use Rattle.std.proofs.shelf.Tests.{cond-true, cond-false, not-from-true, not-from-false, lt-ltb, le-ltb, and-right, or-right, cases-lt}
 use Rattle.voxels.specs.Cells.{inRange, put}
 use Rattle.voxels.specs.Cubes.{blocksNeeded}
 use Rattle.voxels.specs.Refusals.{Told, taken, refused}
@@ -31,6 +32,14 @@ module _ (depth : ℕ) (closed : ℕ → Bool) (limit : ℕ) (cells : ℕ → Ce
   pub answer-taken : isOpen depth closed i ≡ true → inRange c ≡ true → blocksNeeded depth (put cells i c) ≤ limit → setAnswer depth closed limit cells i c ≡ taken tt
   unfolding setAnswer
   answer-taken free ranged fits = cond-false _ _ _ (not-from-true _ free) ∙ (cond-false _ _ _ (not-from-true _ ranged) ∙ cond-false _ _ _ (le-ltb _ _ fits))
+
+-- an open voxel and a cell in the range: only the limit is left to decide
+pub answer-open : (depth : ℕ) (closed : ℕ → Bool) (limit : ℕ) (cells : ℕ → Cell) (i : ℕ) (c : Cell) → isOpen depth closed i ≡ true → inRange c ≡ true → ((setAnswer depth closed limit cells i c ≡ taken tt) × (blocksNeeded depth (put cells i c) ≤ limit)) ⊎ ((setAnswer depth closed limit cells i c ≡ refused 15 i) × (limit < blocksNeeded depth (put cells i c)))
+answer-open depth closed limit cells i c free ranged =
+    ⊎-elim
+    (λ more. inr (answer-past-limit depth closed limit cells i c free ranged more, more))
+    (λ fits. inl (answer-taken depth closed limit cells i c free ranged fits, fits))
+    (cases-lt limit (blocksNeeded depth (put cells i c)))
 
 -- under a mask
 module _ (depth : ℕ) (below mask : ℕ → Bool) (limit : ℕ) (cells : ℕ → Cell) (i : ℕ) (c : Cell) where

@@ -8,12 +8,12 @@ use lib.Dec.{leb, ltb}
 use lib.IntN.{pos, negsuc, subℕ}
 use lib.ListN.{getD}
 use Rattle.std.proofs.shelf.Tests.{and-from, and-parts, leb-true, le-leb, le-ltb, cond-false, cond-both}
-use Rattle.voxels.specs.Cells.{inRange}
+use Rattle.voxels.specs.Cells.{inRange, wordCell}
 use Rattle.voxels.specs.Cubes.{mostBlocks}
 use Rattle.voxels.specs.Space.{voxelCount}
 use Rattle.voxels.specs.declared.cells.Cell.the-variants.{Unknown, Known}
 use Rattle.voxels.proofs.Blocks.{within-most}
-use Rattle.stores.specs.Grids.{wordCell, gridCell}
+use Rattle.stores.specs.Grids.{gridCell}
 use Rattle.stores.specs.Laws.{Lawful}
 
 word-ranged : (w : ℕ) → inRange (wordCell w) ≡ true

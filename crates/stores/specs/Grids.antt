@@ -1,17 +1,13 @@
--- A flat grid's memory: one 16-bit word for each voxel, at its index. A known cell is kept as 201 more than its number.
-use Prim.Native.Nat.{ℕ, zero, suc, _+_}
+-- A flat grid's memory: one 16-bit word for each voxel, at its index.
+use Prim.Native.Nat.{ℕ}
 use mathlib.Core.Bool.{_&&_, cond}
 use mathlib.Core.List.{List}
 use lib.Dec.{leb, ltb}
-use lib.IntN.{subℕ}
 use lib.ListN.{getD}
+use Rattle.voxels.specs.Cells.{wordCell}
 use Rattle.voxels.specs.Space.{isDepth, voxelCount}
 use Rattle.voxels.specs.declared.cells.Cell.{Cell}
-use Rattle.voxels.specs.declared.cells.Cell.the-variants.{Unknown, Known}
-
--- 0 is unknown, and so is what no cell is kept as
-abbrev pub wordCell : ℕ → Cell
-wordCell w = cond (leb 1 w && leb w 551) (Known (subℕ w 201)) Unknown
+use Rattle.voxels.specs.declared.cells.Cell.the-variants.{Unknown}
 
 -- the cell at an index of a grid of that depth over these words
 abbrev pub gridCell : ℕ → List ℕ → ℕ → Cell

@@ -1,10 +1,9 @@
-ghost use mathlib.Core.Bool.{false, true};
+ghost use mathlib.Core.Bool.{false};
 ghost use mathlib.Core.Path.{_≡_};
 ghost use Prim.Native.Nat.{ℕ, _≤_};
 ghost use lib.ListN.{length};
 ghost use Rattle.stores.specs.GridLaws.{grid-lawful};
-ghost use Rattle.stores.specs.Grids.{gridCell, gridDepth, wordCell};
-ghost use Rattle.voxels.specs.Cells.{inRange};
+ghost use Rattle.stores.specs.Grids.{gridCell, gridDepth};
 ghost use Rattle.voxels.specs.Cubes.{mostBlocks};
 ghost use Rattle.voxels.specs.Pages.{guarded, wiped};
 ghost use Rattle.voxels.specs.Space.{voxelCount};
@@ -16,9 +15,6 @@ use voxels::Refusal;
 use voxels::most_blocks;
 use voxels::voxel_count;
 use voxels::wipe_voxels;
-
-// A known cell is kept as this much more than its number.
-const OFFSET: i32 = 201;
 
 // A store that keeps a word for each voxel in lent memory.
 #[derive(Drop)]
@@ -67,7 +63,7 @@ pub impl Store for Grid<'_> as GridStore {
         if index >= voxel_count(self.depth) {
             return Cell::Unknown;
         }
-        cell_of(self.words[index])
+        Cell::from_word(self.words[index])
     }
 
     fn open(&self, index: usize) -> bool {
@@ -87,7 +83,7 @@ pub impl Store for Grid<'_> as GridStore {
                 place: 0,
             });
         }
-        self.words[index] = word_of(value);
+        self.words[index] = value.word();
         Ok(())
     }
 
@@ -107,27 +103,5 @@ fn held_depth(depth: u8, words: usize) -> u8
         depth
     } else {
         0
-    }
-}
-
-// The cell that a grid's word keeps.
-fn cell_of(word: u16) -> Cell
-    ensures { λ r. ⌜ r ≡ wordCell word ⌝ }
-{
-    if 1 <= word && word <= 551 {
-        Cell::Known((i32::from(word) - OFFSET) as i16)
-    } else {
-        Cell::Unknown
-    }
-}
-
-// The word that keeps a cell.
-fn word_of(cell: Cell) -> u16
-    requires { ⌜ inRange cell ≡ true ⌝ }
-    ensures { λ r. ⌜ wordCell r ≡ cell ⌝ }
-{
-    match cell {
-        Cell::Unknown => 0,
-        Cell::Known(value) => (i32::from(value) + OFFSET) as u16,
     }
 }

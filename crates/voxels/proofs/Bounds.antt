@@ -1,11 +1,13 @@
 -- Laws of the quantifiers and sums over the numbers below a bound.
-use mathlib.Core.Path.{_≡_, refl, sym, ap, _∙_}
+use mathlib.Core.Path.{_≡_, refl, sym, ap, ap₂, _∙_}
 use mathlib.Core.Bool.{Bool, true, false, _&&_, _||_, cond}
 use Prim.Native.Nat.{ℕ, zero, suc, _+_, _*_, _≤_, _<_}
 use native.Mathlib.Nat.{mul-add, le-refl}
+use native.Mathlib.Numerals.{add-one}
 use native.Mathlib.Omega.{arith}
 use mathlib.Core.Logic.{⊎-elim}
 use Rattle.std.proofs.shelf.Tests.{cases-eq, or-from, or-left, or-right}
+use Rattle.std.specs.declared.option.Option.{Option}
 use Rattle.std.specs.declared.option.Option.the-variants.{Some, None}
 use Rattle.voxels.specs.Bounded.{some, all, sum, count, first}
 
@@ -44,6 +46,10 @@ pub count-le : (n : ℕ) (p : ℕ → Bool) → count n p ≤ n
 unfolding count sum
 count-le zero p = le-refl 0
 count-le (suc n) p = let rest = count-le n p in elim (p n) as (λ b. cond b 1 0 + count n p ≤ suc n) [ true ↦ omega arith | false ↦ omega arith ]
+
+pub count-more : (n : ℕ) (p : ℕ → Bool) → count (n + 1) p ≡ cond (p n) 1 0 + count n p
+unfolding count sum
+count-more n p = rw add-one
 
 pub all-same : (n : ℕ) (p q : ℕ → Bool) → ((k : ℕ) → k < n → p k ≡ q k) → all n p ≡ all n q
 unfolding all
@@ -94,3 +100,15 @@ first-at (suc n) p k h e before =
     rw (rest, here) (ap Some (sym last)))
     (λ other. let rest = first-at n p k (omega arith) e before in rw rest)
     (cases-eq k n)
+
+pub first-same : (n : ℕ) (p q : ℕ → Bool) → ((k : ℕ) → k < n → p k ≡ q k) → first n p ≡ first n q
+unfolding first
+first-same zero p q same = refl
+first-same (suc n) p q same =
+    ap₂ (λ (o : Option ℕ) (b : Bool). elim o as (λ _. Option ℕ) [ Some k ↦ Some k | None ↦ cond b (Some n) None ])
+    (first-same n p q (λ k h. same k (omega arith)))
+    (same n (omega arith))
+
+pub count-same : (n : ℕ) (p q : ℕ → Bool) → ((k : ℕ) → k < n → p k ≡ q k) → count n p ≡ count n q
+unfolding count
+count-same n p q same = sum-same n (λ k. cond (p k) 1 0) (λ k. cond (q k) 1 0) (λ k h. ap (λ b. cond b 1 0) (same k h))

@@ -1,3 +1,4 @@
 pub mod Bounds
 pub mod Indices
 pub mod Blocks
+pub mod Updates

@@ -1,8 +1,8 @@
 -- A cell is unknown or a number of hundredths of log-odds from -200 to 350.
-use Prim.Native.Nat.{ℕ}
+use Prim.Native.Nat.{ℕ, _+_, _-_}
 use mathlib.Core.Bool.{Bool, true, false, _&&_, cond}
-use lib.Dec.{eqb}
-use lib.IntN.{ℤ, pos, negsuc, _+ℤ_}
+use lib.Dec.{eqb, leb}
+use lib.IntN.{ℤ, pos, negsuc, subℕ, _+ℤ_}
 use lib.Signed.{ltZ, leZ}
 use Rattle.voxels.specs.declared.cells.Cell.{Cell}
 use Rattle.voxels.specs.declared.cells.Cell.the-variants.{Unknown, Known}
@@ -56,3 +56,13 @@ sameCell (Known m) (Known n) = sameNumber m n
 -- the cells of a map are a function from the index; with the cell at i replaced
 abbrev pub put : (ℕ → Cell) → ℕ → Cell → ℕ → Cell
 put cells i c j = cond (eqb j i) c (cells j)
+
+-- a cell as a 16-bit word: 0 is unknown, and a number is kept as 201 more than it is
+abbrev pub cellWord : Cell → ℕ
+cellWord Unknown = 0
+cellWord (Known (pos n)) = cond (leb n 350) (n + 201) 0
+cellWord (Known (negsuc n)) = cond (leb n 199) (200 - n) 0
+
+-- the cell of a word; what no cell is kept as is unknown
+abbrev pub wordCell : ℕ → Cell
+wordCell w = cond (leb 1 w && leb w 551) (Known (subℕ w 201)) Unknown

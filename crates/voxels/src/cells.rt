@@ -1,6 +1,6 @@
 ghost use mathlib.Core.Bool.{true};
 ghost use mathlib.Core.Path.{_≡_};
-ghost use Rattle.voxels.specs.Cells.{change, clamped, inRange, logOdds, stateOf, updated};
+ghost use Rattle.voxels.specs.Cells.{cellWord, change, clamped, inRange, logOdds, stateOf, updated, wordCell};
 
 // The log-odds of a voxel in hundredths, once something was seen of it.
 #[derive(Clone, Copy, PartialEq, Eq, Debug)]
@@ -25,6 +25,9 @@ pub enum State {
 const LOWEST: i16 = -200;
 
 const HIGHEST: i16 = 350;
+
+// A known cell's word is this much more than its number.
+const WORD_OFFSET: i32 = 201;
 
 const HIT: i32 = 85;
 
@@ -56,6 +59,29 @@ impl Cell {
         match self {
             Cell::Unknown => 0,
             Cell::Known(value) => value,
+        }
+    }
+
+    // The cell as a word of lent memory. A number outside the range is kept as unknown is, by 0.
+    pub fn word(self) -> u16
+        ensures value { λ r. ⌜ r ≡ cellWord self ⌝ }
+        ensures back { λ r. ⌜ (inRange self ≡ true → wordCell r ≡ self) ⌝ }
+    {
+        match self {
+            Cell::Known(value) if self.in_range() => (i32::from(value) + WORD_OFFSET) as u16,
+            _ => 0,
+        }
+    }
+
+    // The cell that a word keeps; one that no cell is kept as is unknown.
+    pub fn from_word(word: u16) -> Cell
+        ensures value { λ r. ⌜ r ≡ wordCell word ⌝ }
+        ensures range { λ r. ⌜ inRange r ≡ true ⌝ }
+    {
+        if 1 <= word && word <= 551 {
+            Cell::Known((i32::from(word) - WORD_OFFSET) as i16)
+        } else {
+            Cell::Unknown
         }
     }
 

@@ -8,15 +8,6 @@ pub struct WorkPage<'a> {
     pub depth: u8,
 }
 
-impl<'a> WorkPage<'a> {
-    pub fn new(words: &'a mut [u16], depth: u8) -> WorkPage<'a>
-        ensures words { λ r. ⌜ now (r .words) ≡ now (words .entry) ⌝ }
-        ensures depth { λ r. ⌜ r .depth ≡ depth ⌝ }
-    {
-        WorkPage { words, depth }
-    }
-}
-
 impl Drop for WorkPage<'_> {
     fn drop(self)
         ensures { λ _. ⌜ now (self .exit .0) ≡ wiped (guarded (self .entry .depth) (now (self .entry .words))) (now (self .entry .words)) ⌝ }

@@ -37,10 +37,11 @@ returns c =
     let words = c .args .self .now .words .now in
     let i = c .args .index in
     let map = count-above depth i (omega arith) in
+    let ranged = sym (c .in-range .ensures) ∙ c .if-not-in-range .left in
     record {
       done = record {
-        tells = sym (answer-taken _ _ _ _ _ _ (grid-open depth i (omega arith)) (sym (c .in-range .ensures) ∙ c .if-not-in-range .left) (grid-limit depth (put (gridCell depth words) i (c .args .value)) (map .0) (map .1)));
-        leaves = grid-put depth words i (c .word-of .result) (c .args .value) (omega arith) (c .args .self .now .fits) (c .word-of .ensures);
+        tells = sym (answer-taken _ _ _ _ _ _ (grid-open depth i (omega arith)) ranged (grid-limit depth (put (gridCell depth words) i (c .args .value)) (map .0) (map .1)));
+        leaves = grid-put depth words i (c .word .result) (c .args .value) (omega arith) (c .args .self .now .fits) (c .word .ensures .back ranged);
       };
       depth = refl;
       closed = refl;

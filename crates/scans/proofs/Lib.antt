@@ -1,0 +1,12 @@
+pub mod Pieces
+pub mod Letters
+pub mod Numbers
+pub mod Judging
+pub mod Reading
+pub mod Short
+pub mod Visiting
+pub mod Sweeping
+pub mod LineSets
+pub mod LineMarking
+pub mod LineReading
+pub mod ScanCalls

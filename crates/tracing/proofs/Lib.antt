@@ -1,0 +1,5 @@
+mod Order
+mod Choice
+mod Passed
+mod Words
+mod Turns
