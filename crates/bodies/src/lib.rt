@@ -1,4 +1,6 @@
 // Bodies: the two-bit code by which a map is filed.
+#![tactic(auto)]
+
 mod checks;
 mod codes;
 mod cubes;

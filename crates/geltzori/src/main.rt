@@ -1,4 +1,6 @@
 // geltzori [SESSION..]: carries out sessions of calls, each on a unit of its own, and prints what each call did.
+#![tactic(auto)]
+
 mod command;
 mod faults;
 mod hex;

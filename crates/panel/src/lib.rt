@@ -1,4 +1,6 @@
 // The front panel's call for C.
+#![tactic(auto)]
+
 ghost use Rattle.std.specs.Prelude.{◌≡◌};
 ghost use Rattle.bodies.specs.Loads.{check_answer};
 ghost use Rattle.bodies.specs.Verdicts.{NumbersTold, ZeroForMaps, number_told};

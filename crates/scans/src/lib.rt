@@ -1,4 +1,6 @@
 // Scans: from the range head's text to the cells of any store.
+#![tactic(auto)]
+
 mod calls;
 mod lines;
 mod marks;

@@ -1,4 +1,6 @@
 // What a store means, and the stores that need no tree: the flat grid, and a mask over any store.
+#![tactic(auto)]
+
 mod events;
 mod grid;
 mod mask;

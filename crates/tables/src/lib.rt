@@ -1,4 +1,6 @@
 // Tables of cases with their expected answers, and code that is proved of every store from the trait alone.
+#![tactic(auto)]
+
 mod any_store;
 mod fills;
 mod full;

@@ -1,4 +1,6 @@
 // Lines with the voxels that they pass. The expected values come from the crossings and their order, worked out apart from the walk.
+#![tactic(auto)]
+
 #[cfg(test)]
 mod tests {
     use std::process::Abort;

@@ -1,4 +1,6 @@
 // The voxels that a line passes, marked on a work page.
+#![tactic(auto)]
+
 ghost use Rattle.std.specs.Prelude.{◌≡◌, ℕ, ◌+◌, ◌≤◌, true, false, length, if◌then◌else◌, slice_index};
 ghost use Rattle.voxels.specs.Space.{in_map, voxel_count, voxel_of};
 ghost use Rattle.tracing.specs.Lines.{crossings, passes};

@@ -1,4 +1,6 @@
 // Voxels and their index, cells and their update, cubes and blocks, refusals, and the guard of a lent work page.
+#![tactic(auto)]
+
 mod cells;
 mod cubes;
 mod pages;
