@@ -9,9 +9,9 @@ returns-in-Some c =
     let index = c.in-Some.ensures in
     let value = ap (index_in depth) (sym c.voxel.ensures) ∙ sym index.value in
     let back = index.back ∙ ap Some c.voxel.ensures in
-    ended_set depth (voxel_of c.args.end) c.in-Some.index value back c.args.page.now (omega (arith, c.voxel-count.ensures, c.if-voxel-count-page.true))
+    ended_set depth (voxel_of c.args.end) c.in-Some.index value back c.args.page.now (omega (arith, c.voxel_count.ensures, c.if-voxel_count-page.true))
 
-pub returns-in-default : goal.returns-in-default
-returns-in-default c =
+pub returns-in_default : goal.returns-in_default
+returns-in_default c =
     let depth = c.args.depth in
-    ended_nowhere depth (voxel_of c.args.end) (ap (index_in depth) (sym c.voxel.ensures) ∙ sym c.in-default.ensures.value) c.args.page.now
+    ended_nowhere depth (voxel_of c.args.end) (ap (index_in depth) (sym c.voxel.ensures) ∙ sym c.in_default.ensures.value) c.args.page.now

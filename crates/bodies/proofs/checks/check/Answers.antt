@@ -16,7 +16,7 @@ pub returns-then-depth-lt1 : goal.returns-then-depth-lt1
 returns-then-depth-lt1 c =
     let depth = c.args.depth in
     let body = c.args.body.now in
-    let bytes = bytes_all body (λ i. omega (arith, c.type-inv.body i)) in
+    let bytes = bytes_all body (λ i. omega (arith, c.type_inv.body i)) in
     let no-map : is_depth depth ≡ false =
     ⊎_elim (λ low. and_left (leb 1 depth) (leb depth 5) (lt-leb 1 depth low)) (λ high. and_right (leb 1 depth) (leb depth 5) (lt-leb depth 5 high.1)) c.then-depth-lt1.either in
     let P : Told (Unit {0}) → Type 0 = ExactlyMaps depth body in
@@ -30,9 +30,9 @@ pub returns : goal.returns
 returns c =
     let depth = c.args.depth in
     let body = c.args.body.now in
-    let bytes = bytes_all body (λ i. omega (arith, c.type-inv.body i)) in
+    let bytes = bytes_all body (λ i. omega (arith, c.type_inv.body i)) in
     let is : is_depth depth ≡ true = map_depth depth c.if-depth-lt1.false c.if-depth-gt5.false in
-    let answer : told c.read-body.result ≡ check_answer depth body = read_told (read_body depth body) _ _ depth c.read-body.result c.read-body.ensures ∙ sym (check_depth depth body is) in
+    let answer : told c.read_body.result ≡ check_answer depth body = read_told (read_body depth body) _ _ depth c.read_body.result c.read_body.ensures ∙ sym (check_depth depth body is) in
     let P : Told (Unit {0}) → Type 0 = ExactlyMaps depth body in
     record {
       answer = answer;

@@ -8,7 +8,7 @@ returns-in-Known g c =
     let s = g.S.Store in
     let store = c.args.store.now in
     let n = c.loop-index.index in
-    let end : c.voxel-count-index-end.result ≡ voxel_count (s.depth store) = c.voxel-count-index-end.ensures ∙ ap voxel_count c.depth.ensures in
+    let end : c.voxel_count-index-end.result ≡ voxel_count (s.depth store) = c.voxel_count-index-end.ensures ∙ ap voxel_count c.depth.ensures in
     let inside : n < voxel_count (s.depth store) = omega (arith, end, c.loop-index-test.true) in
     known_some (s.cell store) (voxel_count (s.depth store)) n _ inside c.in-Known.ensures
 
@@ -17,6 +17,6 @@ returns g c =
     let s = g.S.Store in
     let store = c.args.store.now in
     let n = c.loop-index.index in
-    let end : c.voxel-count-index-end.result ≡ voxel_count (s.depth store) = c.voxel-count-index-end.ensures ∙ ap voxel_count c.depth.ensures in
+    let end : c.voxel_count-index-end.result ≡ voxel_count (s.depth store) = c.voxel_count-index-end.ensures ∙ ap voxel_count c.depth.ensures in
     let whole : n ≡ voxel_count (s.depth store) = omega (arith, end, c.loop-index-test.false, c.loop-index.auto.index-end) in
     known_none (s.cell store) (voxel_count (s.depth store)) n c.loop-index.invariant whole

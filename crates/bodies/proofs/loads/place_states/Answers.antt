@@ -27,7 +27,7 @@ counting-loaded-requires g c =
     let small = count_small (s.depth store) in
     let sets = count_le n (is_set (s.depth store) (s.closed store) (s.limit store) wanted (s.cell store)) in
     let skips = count_le n (is_skipped (s.depth store) (s.closed store) (s.limit store) wanted (s.cell store)) in
-    let end : c.voxel-count-index-end.result ≡ voxel_count (s.depth store) = c.voxel-count-index-end.ensures ∙ ap voxel_count c.depth.ensures in
+    let end : c.voxel_count-index-end.result ≡ voxel_count (s.depth store) = c.voxel_count-index-end.ensures ∙ ap voxel_count c.depth.ensures in
     let inside : n < voxel_count (s.depth store) = omega (arith, end, c.loop-index-test.true) in
     (omega (arith, so_far.sets), omega (arith, so_far.skips))
 
@@ -40,8 +40,8 @@ returns-in-Err g c =
     let n = c.loop-index.index in
     let inv = c.loop-index.invariant in
     let done = c.in-Err.ensures in
-    let after = c.place-voxel.new.store in
-    let end : c.voxel-count-index-end.result ≡ voxel_count (s.depth began) = c.voxel-count-index-end.ensures ∙ ap voxel_count c.depth.ensures in
+    let after = c.place_voxel.new.store in
+    let end : c.voxel_count-index-end.result ≡ voxel_count (s.depth began) = c.voxel_count-index-end.ensures ∙ ap voxel_count c.depth.ensures in
     let inside : n < voxel_count (s.depth began) = omega (arith, end, c.loop-index-test.true) in
     let P : ℕ → (ℕ → Bool) → ℕ → Type 0 = λ d cl l. PlaceDone d cl l (s.cell store) (s.cell after) n (word_cell (get_or words n 0)) (Err c.in-Err.refusal) in
     record {
@@ -61,7 +61,7 @@ loop-index-preserved g c =
     let n = c.loop-index.index in
     let inv = c.loop-index.invariant in
     let done = c.in-Ok.ensures in
-    let after = c.place-voxel.new.store in
+    let after = c.place_voxel.new.store in
     let placed = c.in-Ok.placed in
     let P : ℕ → (ℕ → Bool) → ℕ → Type 0 = λ d cl l. PlaceDone d cl l (s.cell store) (s.cell after) n (word_cell (get_or words n 0)) (Ok placed) in (
       done.depth ∙ inv.0,
@@ -82,7 +82,7 @@ returns g c =
     let closed = s.closed began in
     let limit = s.limit began in
     let cells = s.cell began in
-    let end : c.voxel-count-index-end.result ≡ voxel_count depth = c.voxel-count-index-end.ensures ∙ ap voxel_count c.depth.ensures in
+    let end : c.voxel_count-index-end.result ≡ voxel_count depth = c.voxel_count-index-end.ensures ∙ ap voxel_count c.depth.ensures in
     let whole : n ≡ voxel_count depth = omega (arith, end, c.loop-index-test.false, c.loop-index.auto.index-end) in
     let none : (k : ℕ) → k < voxel_count depth → passes_limit depth closed limit wanted cells k ≡ false =
     λ k h. within_limit depth closed limit wanted cells k (so_far.fitted (suc k) (omega (arith, whole))) in

@@ -4,13 +4,13 @@ use Rattle.bodies.specs.Readings.{read_pair}
 use Rattle.bodies.proofs.ReadingOn.{Reached}
 use Rattle.bodies.proofs.reader.+read_child_read_pair.Given as goal
 
-abbrev pub decreases-read-child : goal.decreases-read-child
-decreases-read-child l = 2 * l.cube.level + 1
+abbrev pub decreases-read_child : goal.decreases-read_child
+decreases-read_child l = 2 * l.cube.level + 1
 
-abbrev pub decreases-read-pair : goal.decreases-read-pair
-decreases-read-pair l = 2 * l.cube.level
+abbrev pub decreases-read_pair : goal.decreases-read_pair
+decreases-read_pair l = 2 * l.cube.level
 
-abbrev pub invariant-read-pair-loop-child : goal.invariant-read-pair-loop-child
-invariant-read-pair-loop-child l =
+abbrev pub invariant-read_pair-loop-child : goal.invariant-read_pair-loop-child
+invariant-read_pair-loop-child l =
     let level = l.cube.level - 1 in
     Reached (read_pair level false) (8 ^ level) (child_code l.pair.first l.pair.second) (l.body.at + 2) (drop 2 l.body.bytes.now) l.initial.words l.words l.cube.first l.child l.left.at l.left.bytes.now

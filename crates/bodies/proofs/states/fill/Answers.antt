@@ -8,7 +8,7 @@ pub loop-i-preserved : goal.loop-i-preserved
 loop-i-preserved c =
     let words = c.loop-i.words in
     let i = c.loop-i.i in
-    let code = c.state-code-code.result in
+    let code = c.state_code-code.result in
     let start : c.args.first ≤ i = c.loop-i.auto.i in
     let long : i < length words = search rules in (
       (λ k h. let ne : k ≢ i = omega arith in get_or-set_other words i k code 0 ne ∙ c.loop-i.invariant.0 k h),
@@ -17,7 +17,7 @@ loop-i-preserved c =
           (λ other. let ne : k ≢ i = other in get_or-set_other words i k code 0 ne ∙ c.loop-i.invariant.1 k h (omega arith))
           (cases_eq k i)),
       (λ k h. let ne : k ≢ i = omega arith in get_or-set_other words i k code 0 ne ∙ c.loop-i.invariant.2 k (omega arith)),
-      omega (arith, c.loop-i-test.true, c.min-end.ensures, c.saturating-add.ensures),
+      omega (arith, c.loop-i-test.true, c.min-end.ensures, c.saturating_add.ensures),
     )
 
 pub returns : goal.returns
@@ -26,5 +26,5 @@ returns c =
     let after = c.loop-i.words in
     kept_fill before after c.args.first c.args.count c.args.state (search rules)
     c.loop-i.invariant.0
-    (λ i h l room. c.loop-i.invariant.1 i h (omega (arith, c.min-end.ensures, c.saturating-add.ensures)) ∙ c.state-code-code.ensures)
+    (λ i h l room. c.loop-i.invariant.1 i h (omega (arith, c.min-end.ensures, c.saturating_add.ensures)) ∙ c.state_code-code.ensures)
     (λ i h. c.loop-i.invariant.2 i (omega (arith, c.loop-i.invariant.3)))

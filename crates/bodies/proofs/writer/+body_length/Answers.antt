@@ -6,22 +6,22 @@ use Rattle.bodies.proofs.CubeSizes.{size_small}
 use Rattle.bodies.proofs.PairCodes.{mixed_child, uniform_child}
 use Rattle.bodies.proofs.BodyParts.{body_up, child_body, joined_none}
 use Rattle.bodies.proofs.writer.+body_length.Goals as goal
-use Rattle.bodies.proofs.writer.+body_length.Goals.{in-Mixed, in-default}
+use Rattle.bodies.proofs.writer.+body_length.Goals.{in-Mixed, in_default}
 
 pub loop-child-init : goal.loop-child-init
 loop-child-init t c = omega (arith, ap length (joined_none (child_body (c.args.cube.level - 1) (word_states c.args.words.now) c.args.cube.first)))
 
-pub body-length-length-requires : goal.body-length-length-requires
-body-length-length-requires t c =
-    let turn = mixed_child (word_states c.args.words.now) c.args.cube c.pair-of-pair.result c.requires.above c.pair-of-pair.ensures.first c.pair-of-pair.ensures.second c.loop-child.child c.loop-child-test.true c.code.result c.code.ensures c.in-Mixed.is c.child.result c.child.ensures.level c.child.ensures.first in
+pub body_length-length-requires : goal.body_length-length-requires
+body_length-length-requires t c =
+    let turn = mixed_child (word_states c.args.words.now) c.args.cube c.pair_of-pair.result c.requires.above c.pair_of-pair.ensures.first c.pair_of-pair.ensures.second c.loop-child.child c.loop-child-test.true c.code.result c.code.ensures c.in-Mixed.is c.child.result c.child.ensures.level c.child.ensures.first in
     (omega (arith, c.decreases, c.child.ensures.level, c.requires.above), (c.requires.coded, (omega (arith, c.requires.long, turn.inside), turn.above)))
 
-pub overflow-add-length : goal.overflow-add-length
-overflow-add-length t c =
+pub overflow_add-length : goal.overflow_add-length
+overflow_add-length t c =
     let cube = c.args.cube in
     let states = word_states c.args.words.now in
-    let turn = mixed_child states cube c.pair-of-pair.result c.requires.above c.pair-of-pair.ensures.first c.pair-of-pair.ensures.second c.loop-child.child c.loop-child-test.true c.code.result c.code.ensures c.in-Mixed.is c.child.result c.child.ensures.level c.child.ensures.first in
-    omega (arith, c.loop-child.invariant, c.body-length-length.ensures, turn.room, body_small cube.level states cube.first, size_small cube.level cube.shallow)
+    let turn = mixed_child states cube c.pair_of-pair.result c.requires.above c.pair_of-pair.ensures.first c.pair_of-pair.ensures.second c.loop-child.child c.loop-child-test.true c.code.result c.code.ensures c.in-Mixed.is c.child.result c.child.ensures.level c.child.ensures.first in
+    omega (arith, c.loop-child.invariant, c.body_length-length.ensures, turn.room, body_small cube.level states cube.first, size_small cube.level cube.shallow)
 
 pub loop-child-preserved : goal.loop-child-preserved
 loop-child-preserved t c =
@@ -29,10 +29,10 @@ loop-child-preserved t c =
     let states = word_states c.args.words.now in
     elim c.match-code.branch [
       | in-Mixed w ↦
-          (let turn = mixed_child states cube c.pair-of-pair.result c.requires.above c.pair-of-pair.ensures.first c.pair-of-pair.ensures.second c.loop-child.child c.loop-child-test.true c.code.result c.code.ensures w.in-Mixed.is w.child.result w.child.ensures.level w.child.ensures.first in
-          omega (arith, w.length-is, c.loop-child.invariant, w.body-length-length.ensures, turn.long))
-      | in-default w ↦
-          omega (arith, w.length-is, c.loop-child.invariant, ap length (uniform_child states cube c.pair-of-pair.result c.requires.above c.pair-of-pair.ensures.first c.pair-of-pair.ensures.second c.loop-child.child c.loop-child-test.true c.code.result c.code.ensures w.in-default.not-Mixed))
+          (let turn = mixed_child states cube c.pair_of-pair.result c.requires.above c.pair_of-pair.ensures.first c.pair_of-pair.ensures.second c.loop-child.child c.loop-child-test.true c.code.result c.code.ensures w.in-Mixed.is w.child.result w.child.ensures.level w.child.ensures.first in
+          omega (arith, w.length-is, c.loop-child.invariant, w.body_length-length.ensures, turn.long))
+      | in_default w ↦
+          omega (arith, w.length-is, c.loop-child.invariant, ap length (uniform_child states cube c.pair_of-pair.result c.requires.above c.pair_of-pair.ensures.first c.pair_of-pair.ensures.second c.loop-child.child c.loop-child-test.true c.code.result c.code.ensures w.in_default.not-Mixed))
     ]
 
 pub returns : goal.returns

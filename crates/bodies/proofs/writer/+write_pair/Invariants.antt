@@ -4,8 +4,8 @@ use Rattle.bodies.specs.Writes.{put_at, word_states}
 use Rattle.bodies.proofs.BodyParts.{child_body}
 use Rattle.bodies.proofs.writer.+write_pair.Given as goal
 
-abbrev pub decreases-write-pair : goal.decreases-write-pair
-decreases-write-pair l = l.cube.level
+abbrev pub decreases-write_pair : goal.decreases-write_pair
+decreases-write_pair l = l.cube.level
 
 abbrev pub invariant-loop-child : goal.invariant-loop-child
 invariant-loop-child l =

@@ -5,8 +5,8 @@ use Rattle.bodies.proofs.CubeSizes.{child_in_cube}
 use Rattle.bodies.proofs.UniformCubes.{code_le}
 use Rattle.bodies.proofs.writer.child_bits.Goals as goal
 
-pub cube-bits-requires : goal.cube-bits-requires
-cube-bits-requires c = record {
+pub cube_bits-requires : goal.cube_bits-requires
+cube_bits-requires c = record {
   coded = c.requires.coded;
   long = omega (arith, c.requires.long, c.child.ensures.first, ap (λ n. 8 ^ n) c.child.ensures.level, child_in_cube c.args.cube.level c.args.cube.first c.args.child c.requires.above c.requires.one);
 }
@@ -16,6 +16,6 @@ returns c =
     let cube = c.child.result in
     let states = word_states c.args.words.now in
     record {
-      code = c.cube-bits.ensures ∙ ap₂ (λ level first. cube_code level states first) c.child.ensures.level c.child.ensures.first;
-      small = omega (arith, c.cube-bits.ensures, code_le cube.level states cube.first);
+      code = c.cube_bits.ensures ∙ ap₂ (λ level first. cube_code level states first) c.child.ensures.level c.child.ensures.first;
+      small = omega (arith, c.cube_bits.ensures, code_le cube.level states cube.first);
     }

@@ -22,9 +22,9 @@ returns-in-Err g c =
       only = only_states depth (s.cell store);
     }
 
-pub write-over-requires : goal.write-over-requires
-write-over-requires g c =
-    let enough = page_taken (g.S.Store.depth c.args.store.now) (length c.args.page.now) (c.in-default.ensures ∙ ap (λ d. over_page d (length c.args.page.now) (taken tt)) c.depth-depth.ensures) in
+pub write_over-requires : goal.write_over-requires
+write_over-requires g c =
+    let enough = page_taken (g.S.Store.depth c.args.store.now) (length c.args.page.now) (c.in_default.ensures ∙ ap (λ d. over_page d (length c.args.page.now) (taken tt)) c.depth-depth.ensures) in
     record { some = enough.0; long = enough.1 }
 
 pub returns : goal.returns
@@ -33,12 +33,12 @@ returns g c =
     let store = c.args.store.now in
     let depth = s.depth store in
     let page = c.args.page.now in
-    let done = c.write-over.ensures in
-    let enough = page_taken depth (length page) (c.in-default.ensures ∙ ap (λ d. over_page d (length page) (taken tt)) c.depth-depth.ensures) in
+    let done = c.write_over.ensures in
+    let enough = page_taken depth (length page) (c.in_default.ensures ∙ ap (λ d. over_page d (length page) (taken tt)) c.depth-depth.ensures) in
     record {
       answer = done.answer ∙ sym (over_enough depth (length page) (room_answer depth (s.cell store) (length c.args.output.now)) enough.0 enough.1);
       bytes = done.bytes;
-      page = guard_left depth page enough.1 c.write-over.new.words _ c.depth-depth.result c.depth-depth.ensures c.write-over.auto.words done.rest c.drop-guard.ensures;
+      page = guard_left depth page enough.1 c.write_over.new.words _ c.depth-depth.result c.depth-depth.ensures c.write_over.auto.words done.rest c.drop-guard.ensures;
       back = reads_back depth (s.cell store);
       only = only_states depth (s.cell store);
     }

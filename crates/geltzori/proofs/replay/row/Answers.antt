@@ -10,7 +10,7 @@ loop-x-init g c = search rules
 pub loop-x-preserved : goal.loop-x-preserved
 loop-x-preserved g c =
     grown (g.S.Store.depth c.args.store.now) (g.S.Store.closed c.args.store.now) (g.S.Store.cell c.args.store.now) c.args.y c.args.z
-    c.loop-x.x c.symbol-at.result _ _ c.loop-x.invariant c.symbol-at.ensures c.in-ok-push.ensures.bytes
+    c.loop-x.x c.symbol_at.result _ _ c.loop-x.invariant c.symbol_at.ensures c.in_ok-push.ensures.bytes
 
 pub returns : goal.returns
 returns g c =

@@ -22,15 +22,15 @@ returns-then-depth-eq0 g c =
       limit = refl;
     }
 
-pub returns-then-page-voxel-count : goal.returns-then-page-voxel-count
-returns-then-page-voxel-count g c =
+pub returns-then-page-voxel_count : goal.returns-then-page-voxel_count
+returns-then-page-voxel_count g c =
     let s = g.S.Store in
     let store = c.args.store.now in
     let page = c.args.page.now in
     let text = c.args.text.now in
     let some : s.depth store ≡ 0 → ⊥ = λ e. c.if-depth-eq0.false (c.depth-depth.ensures ∙ e) in
-    let counts : c.voxel-count.result ≡ voxel_count (s.depth store) = c.voxel-count.ensures ∙ ap voxel_count c.depth-depth.ensures in
-    let short : length page < voxel_count (s.depth store) = omega (arith, counts, c.if-page-voxel-count.true) in
+    let counts : c.voxel_count.result ≡ voxel_count (s.depth store) = c.voxel_count.ensures ∙ ap voxel_count c.depth-depth.ensures in
+    let short : length page < voxel_count (s.depth store) = omega (arith, counts, c.if-page-voxel_count.true) in
     record {
       answer = sym (scan_short (s.depth store) (s.closed store) (s.limit store) (s.cell store) (length page) text some short);
       cells = λ i. refl;
@@ -47,15 +47,15 @@ returns g c =
     let store = c.args.store.now in
     let page = c.args.page.now in
     let text = c.args.text.now in
-    let done = c.scan-over.ensures in
-    let words = c.scan-over.new.words in
+    let done = c.scan_over.ensures in
+    let words = c.scan_over.new.words in
     let some : s.depth store ≡ 0 → ⊥ = λ e. c.if-depth-eq0.false (c.depth-depth.ensures ∙ e) in
-    let counts : c.voxel-count.result ≡ voxel_count (s.depth store) = c.voxel-count.ensures ∙ ap voxel_count c.depth-depth.ensures in
-    let long : voxel_count (s.depth store) ≤ length page = omega (arith, counts, c.if-page-voxel-count.false) in
+    let counts : c.voxel_count.result ≡ voxel_count (s.depth store) = c.voxel_count.ensures ∙ ap voxel_count c.depth-depth.ensures in
+    let long : voxel_count (s.depth store) ≤ length page = omega (arith, counts, c.if-page-voxel_count.false) in
     record {
       answer = done.answer ∙ sym (scan_reads (s.depth store) (s.closed store) (s.limit store) (s.cell store) (length page) text some long);
       cells = done.cells;
-      page = c.drop-guard.ensures ∙ ap (λ d. wiped (guarded d words) words) c.depth-depth.ensures ∙ same_wiped (s.depth store) page long words c.scan-over.auto.words done.rest;
+      page = c.drop-guard.ensures ∙ ap (λ d. wiped (guarded d words) words) c.depth-depth.ensures ∙ same_wiped (s.depth store) page long words c.scan_over.auto.words done.rest;
       order = order_free (s.depth store) (s.closed store) (s.limit store) (s.cell store) text;
       depth = done.depth;
       closed = done.closed;

@@ -10,19 +10,19 @@ use Rattle.scans.proofs.calls.scan_over.Given.{Over}
 use Rattle.scans.proofs.calls.scan_over.Goals as goal
 use Rattle.scans.proofs.calls.scan_over.Goals.{In-Ok}
 
-pub mark-lines-requires : goal.mark-lines-requires
-mark-lines-requires g c =
+pub mark_lines-requires : goal.mark_lines-requires
+mark_lines-requires g c =
     let depth = c.depth-depth.result in
     let words = c.args.words.now in
     let same = ap voxel_count c.depth-depth.ensures in
     let long : voxel_count depth ≤ length words = omega (arith, same, c.requires.long) in
     record {
-      long = omega (arith, long, c.wipe-voxels.auto.words);
-      blank = λ k inside. ap (λ ws. get_or ws k 0) c.wipe-voxels.ensures ∙ wiped_front depth words long k inside;
+      long = omega (arith, long, c.wipe_voxels.auto.words);
+      blank = λ k inside. ap (λ ws. get_or ws k 0) c.wipe_voxels.ensures ∙ wiped_front depth words long k inside;
     }
 
-pub sweep-marks-requires : goal.sweep-marks-requires
-sweep-marks-requires g c = (c.requires.some, omega (arith, c.requires.long, c.wipe-voxels.auto.words, c.mark-lines.auto.page))
+pub sweep_marks-requires : goal.sweep_marks-requires
+sweep_marks-requires g c = (c.requires.some, omega (arith, c.requires.long, c.wipe_voxels.auto.words, c.mark_lines.auto.page))
 
 pub returns-in-Err : goal.returns-in-Err
 returns-in-Err g c =
@@ -38,7 +38,7 @@ returns-in-Err g c =
     record {
       answer = sym (ap (text_answer (s.depth store) (s.closed store) (s.limit store) (s.cell store)) reads);
       cells = λ i. refl;
-      rest = λ k past. c.in-Err.ensures.rest k (omega (arith, counts, past)) ∙ ap (λ ws. get_or ws k 0) c.wipe-voxels.ensures ∙ wiped_rest depth words long k (omega (arith, counts, past));
+      rest = λ k past. c.in-Err.ensures.rest k (omega (arith, counts, past)) ∙ ap (λ ws. get_or ws k 0) c.wipe_voxels.ensures ∙ wiped_rest depth words long k (omega (arith, counts, past));
       depth = refl;
       closed = refl;
       limit = refl;
@@ -47,13 +47,13 @@ returns-in-Err g c =
 -- what the reading left for the sweep: the text's lines, and marks that say its events
 read_so : (g : Over) (c : goal.In-Ok g) → let s = g.S.Store in let store = c.args.store.now in
     (said : ScanText) × (read_text (s.depth store) c.args.text.now ≡ taken said) × (c.in-Ok.used ≡ said.used)
-    × ((k : ℕ) → k < voxel_count (s.depth store) → page_events c.mark-lines.new.page k ≡ scan_events (s.depth store) said k)
-    × ((k : ℕ) → voxel_count (s.depth store) ≤ k → get_or c.mark-lines.new.page k 0 ≡ get_or c.args.words.now k 0)
+    × ((k : ℕ) → k < voxel_count (s.depth store) → page_events c.mark_lines.new.page k ≡ scan_events (s.depth store) said k)
+    × ((k : ℕ) → voxel_count (s.depth store) ≤ k → get_or c.mark_lines.new.page k 0 ≡ get_or c.args.words.now k 0)
 read_so g c =
     let depth = g.S.Store.depth c.args.store.now in
     let held = c.depth-depth.result in
     let words = c.args.words.now in
-    let marks = c.mark-lines.new.page in
+    let marks = c.mark_lines.new.page in
     let same = c.depth-depth.ensures in
     let counts = ap voxel_count same in
     let long : voxel_count held ≤ length words = omega (arith, counts, c.requires.long) in
@@ -64,24 +64,24 @@ read_so g c =
       ap (λ d. read_text d c.args.text.now) (sym same) ∙ read.1,
       read.2,
       marks_agree depth said marks (subst M same read.3),
-      λ k past. c.in-Ok.ensures.rest k (omega (arith, counts, past)) ∙ ap (λ ws. get_or ws k 0) c.wipe-voxels.ensures ∙ wiped_rest held words long k (omega (arith, counts, past)),
+      λ k past. c.in-Ok.ensures.rest k (omega (arith, counts, past)) ∙ ap (λ ws. get_or ws k 0) c.wipe_voxels.ensures ∙ wiped_rest held words long k (omega (arith, counts, past)),
     )
 
-pub returns-in-Ok-sweep-marks : goal.returns-in-Ok-sweep-marks
-returns-in-Ok-sweep-marks g c =
+pub returns-in-Ok-sweep_marks : goal.returns-in-Ok-sweep_marks
+returns-in-Ok-sweep_marks g c =
     let s = g.S.Store in
     let store = c.args.store.now in
     let depth = s.depth store in
     let closed = s.closed store in
     let limit = s.limit store in
     let cells = s.cell store in
-    let marks = c.mark-lines.new.page in
-    let read = read_so g (goal.at.returns-in-Ok-sweep-marks g c).In-Ok in
+    let marks = c.mark_lines.new.page in
+    let read = read_so g (goal.at.returns-in-Ok-sweep_marks g c).In-Ok in
     let said = read.0 in
-    let done = c.in-Ok-sweep-marks.ensures in
+    let done = c.in-Ok-sweep_marks.ensures in
     record {
       answer =
-          ap (λ u. with_used u (taken (record { set = c.in-Ok-sweep-marks.tally.set; skipped = c.in-Ok-sweep-marks.tally.skipped }))) read.2
+          ap (λ u. with_used u (taken (record { set = c.in-Ok-sweep_marks.tally.set; skipped = c.in-Ok-sweep_marks.tally.skipped }))) read.2
           ∙ ap (with_used said.used) (done.answer ∙ same_sweep depth closed limit cells (page_events marks) (scan_events depth said) read.3)
           ∙ sym (ap (text_answer depth closed limit cells) read.1);
       cells = λ i. done.cells i ∙ same_swept depth closed limit cells (page_events marks) (scan_events depth said) read.3 (voxel_count depth) i ∙ sym (ap (λ r. text_cells depth closed limit cells r i) read.1);
@@ -91,20 +91,20 @@ returns-in-Ok-sweep-marks g c =
       limit = done.limit;
     }
 
-pub returns-in-Err-sweep-marks : goal.returns-in-Err-sweep-marks
-returns-in-Err-sweep-marks g c =
+pub returns-in-Err-sweep_marks : goal.returns-in-Err-sweep_marks
+returns-in-Err-sweep_marks g c =
     let s = g.S.Store in
     let store = c.args.store.now in
     let depth = s.depth store in
     let closed = s.closed store in
     let limit = s.limit store in
     let cells = s.cell store in
-    let read = read_so g (goal.at.returns-in-Err-sweep-marks g c).In-Ok in
+    let read = read_so g (goal.at.returns-in-Err-sweep_marks g c).In-Ok in
     let said = read.0 in
-    let done = c.in-Err-sweep-marks.ensures in
+    let done = c.in-Err-sweep_marks.ensures in
     record {
       answer =
-          ap (with_used said.used) (done.answer ∙ same_sweep depth closed limit cells (page_events c.mark-lines.new.page) (scan_events depth said) read.3)
+          ap (with_used said.used) (done.answer ∙ same_sweep depth closed limit cells (page_events c.mark_lines.new.page) (scan_events depth said) read.3)
           ∙ sym (ap (text_answer depth closed limit cells) read.1);
       cells = done.cells;
       rest = λ k past. done.rest k past ∙ read.4 k past;

@@ -13,7 +13,7 @@ use Rattle.scans.proofs.lines.number.Goals.{Joined-else-count-gt1, else-count-gt
 form : (c : goal.Joined-else-count-gt1) → is_number c.args.digits.now ≡ all_digits c.args.digits.now
 form c =
     let digits = c.args.digits.now in
-    is_number_lem digits c.if-count-eq0.false c.if-count-gt-MOST-DIGITS.false
+    is_number_lem digits c.if-count-eq0.false c.if-count-gt-MOST_DIGITS.false
     (elim c.else-count-gt1.branch [
       | else-count-gt1-via-then-count-gt1+else-digits-eq48 w ↦ λ _. w.if-digits-eq48.false
       | else-count-gt1-via-else-count-gt1 w ↦ λ more _. omega (arith, w.if-count-gt1.false, more)
@@ -25,11 +25,11 @@ small i n below few =
     let power : 10 ^ i ≤ 10 ^ 3 = pow-le-pow_right {n = 10} (lit< tt) most in
     omega arith
 
-pub overflow-mul-value : goal.overflow-mul-value
-overflow-mul-value c = omega (arith, small c.loop-digit.digit-index c.loop-digit.value c.loop-digit.invariant.0 (omega arith))
+pub overflow_mul-value : goal.overflow_mul-value
+overflow_mul-value c = omega (arith, small c.loop-digit.digit-index c.loop-digit.value c.loop-digit.invariant.0 (omega arith))
 
-pub overflow-add-value : goal.overflow-add-value
-overflow-add-value c = omega (arith, small c.loop-digit.digit-index c.loop-digit.value c.loop-digit.invariant.0 (omega arith))
+pub overflow_add-value : goal.overflow_add-value
+overflow_add-value c = omega (arith, small c.loop-digit.digit-index c.loop-digit.value c.loop-digit.invariant.0 (omega arith))
 
 pub returns-then-digit-lt48 : goal.returns-then-digit-lt48
 returns-then-digit-lt48 c =

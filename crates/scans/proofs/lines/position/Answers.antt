@@ -8,63 +8,63 @@ use Rattle.scans.proofs.Pieces.{some_piece}
 use Rattle.scans.proofs.lines.position.Goals as goal
 use Rattle.scans.proofs.lines.position.Goals.{In-default}
 
-pub returns-in-err-first : goal.returns-in-err-first
-returns-in-err-first c = c.from-residual.ensures ∙ sym (ap position_of c.in-err-first.ensures)
+pub returns-in_err-first : goal.returns-in_err-first
+returns-in_err-first c = c.from-residual.ensures ∙ sym (ap position_of c.in_err-first.ensures)
 
 pub returns-then-first-ne0 : goal.returns-then-first-ne0
 returns-then-first-ne0 c =
     let numbers = c.args.numbers.now in
-    let first = c.in-ok-first.first in
-    let found = c.in-ok-first.ensures in
+    let first = c.in_ok-first.first in
+    let found = c.in_ok-first.ensures in
     let long = length-between numbers 0 first (omega (arith, found.1)) in
     sym (ap position_of found.2 ∙ position_ahead (take (first - 0) numbers) (pieces_from 32 [] (drop (first + 1) numbers)) (λ none. c.if-first-ne0.true (omega (arith, none, long))))
 
-pub returns-in-err-second : goal.returns-in-err-second
-returns-in-err-second c =
-    c.from-residual-in-err-second.ensures ∙ sym (two_pieces c.in-ok-first.ensures.2 c.in-err-second.ensures)
+pub returns-in_err-second : goal.returns-in_err-second
+returns-in_err-second c =
+    c.from-residual-in_err-second.ensures ∙ sym (two_pieces c.in_ok-first.ensures.2 c.in_err-second.ensures)
 
-pub returns-in-err-third : goal.returns-in-err-third
-returns-in-err-third c =
-    c.from-residual-in-err-third.ensures ∙ sym (three_pieces c.in-ok-first.ensures.2 c.in-ok-second.ensures.2 c.in-err-third.ensures)
+pub returns-in_err-third : goal.returns-in_err-third
+returns-in_err-third c =
+    c.from-residual-in_err-third.ensures ∙ sym (three_pieces c.in_ok-first.ensures.2 c.in_ok-second.ensures.2 c.in_err-third.ensures)
 
 pub returns-in-Some : goal.returns-in-Some
 returns-in-Some c =
     let further = some_piece 32 [] (drop (c.in-Some.field-0 + 1) c.args.numbers.now) in
-    sym (more_pieces c.in-ok-first.ensures.2 c.in-ok-second.ensures.2 c.in-ok-third.ensures.2 c.in-Some.ensures.2 further.2)
+    sym (more_pieces c.in_ok-first.ensures.2 c.in_ok-second.ensures.2 c.in_ok-third.ensures.2 c.in-Some.ensures.2 further.2)
 
 -- the three numbers stand between the spaces
 three : (c : goal.In-default) →
     position_of (pieces_from 32 [] c.args.numbers.now) ≡
     together
-    (number_in (take (c.in-ok-second.second - (c.in-ok-first.first + 1)) (drop (c.in-ok-first.first + 1) c.args.numbers.now)))
-    (number_in (take (c.in-ok-third.third - (c.in-ok-second.second + 1)) (drop (c.in-ok-second.second + 1) c.args.numbers.now)))
-    (number_in (take (length c.args.numbers.now - (c.in-ok-third.third + 1)) (drop (c.in-ok-third.third + 1) c.args.numbers.now)))
+    (number_in (take (c.in_ok-second.second - (c.in_ok-first.first + 1)) (drop (c.in_ok-first.first + 1) c.args.numbers.now)))
+    (number_in (take (c.in_ok-third.third - (c.in_ok-second.second + 1)) (drop (c.in_ok-second.second + 1) c.args.numbers.now)))
+    (number_in (take (length c.args.numbers.now - (c.in_ok-third.third + 1)) (drop (c.in_ok-third.third + 1) c.args.numbers.now)))
 three c =
     let numbers = c.args.numbers.now in
-    let rest = take_rest numbers (c.in-ok-third.third + 1) in
-    let none : c.in-ok-first.first ≡ 0 = omega arith in
-    four_pieces c.in-ok-first.ensures.2 c.in-ok-second.ensures.2 c.in-ok-third.ensures.2
-    (c.in-default.ensures ∙ ap (λ piece. piece ∷ []) (sym rest))
+    let rest = take_rest numbers (c.in_ok-third.third + 1) in
+    let none : c.in_ok-first.first ≡ 0 = omega arith in
+    four_pieces c.in_ok-first.ensures.2 c.in_ok-second.ensures.2 c.in_ok-third.ensures.2
+    (c.in_default.ensures ∙ ap (λ piece. piece ∷ []) (sym rest))
     (ap (λ n. length (take (n - 0) numbers)) none)
 
-pub returns-in-err-x : goal.returns-in-err-x
-returns-in-err-x c =
-    c.from-residual-in-err-x.ensures ∙ sym (three (goal.at.returns-in-err-x c).In-default ∙ without_x _ _ _ c.in-err-x.ensures)
+pub returns-in_err-x : goal.returns-in_err-x
+returns-in_err-x c =
+    c.from-residual-in_err-x.ensures ∙ sym (three (goal.at.returns-in_err-x c).In-default ∙ without_x _ _ _ c.in_err-x.ensures)
 
-pub returns-in-err-y : goal.returns-in-err-y
-returns-in-err-y c =
-    c.from-residual-in-err-y.ensures
-    ∙ sym (three (goal.at.returns-in-err-y c).In-default ∙ without_y _ _ _ c.in-ok-x.x c.in-ok-x.ensures c.in-err-y.ensures)
+pub returns-in_err-y : goal.returns-in_err-y
+returns-in_err-y c =
+    c.from-residual-in_err-y.ensures
+    ∙ sym (three (goal.at.returns-in_err-y c).In-default ∙ without_y _ _ _ c.in_ok-x.x c.in_ok-x.ensures c.in_err-y.ensures)
 
-pub returns-in-err-z : goal.returns-in-err-z
-returns-in-err-z c =
-    c.from-residual-in-err-z.ensures
+pub returns-in_err-z : goal.returns-in_err-z
+returns-in_err-z c =
+    c.from-residual-in_err-z.ensures
     ∙ sym
-    (three (goal.at.returns-in-err-z c).In-default
-    ∙ without_z _ _ _ c.in-ok-x.x c.in-ok-y.y c.in-ok-x.ensures c.in-ok-y.ensures c.in-err-z.ensures)
+    (three (goal.at.returns-in_err-z c).In-default
+    ∙ without_z _ _ _ c.in_ok-x.x c.in_ok-y.y c.in_ok-x.ensures c.in_ok-y.ensures c.in_err-z.ensures)
 
 pub returns : goal.returns
 returns c =
     sym
     (three (goal.at.returns c).In-default
-    ∙ with_all _ _ _ c.in-ok-x.x c.in-ok-y.y c.in-ok-z.z c.in-ok-x.ensures c.in-ok-y.ensures c.in-ok-z.ensures)
+    ∙ with_all _ _ _ c.in_ok-x.x c.in_ok-y.y c.in_ok-z.z c.in_ok-x.ensures c.in_ok-y.ensures c.in_ok-z.ensures)

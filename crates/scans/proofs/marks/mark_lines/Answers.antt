@@ -30,7 +30,7 @@ loop-taken-preserved c =
     let at = c.loop-taken.at in
     let what = c.in-Ok.taken.0 in
     let next = c.in-Ok.taken.1 in
-    let page' = c.mark-step.new.page in
+    let page' = c.mark_step.new.page in
     let read = c.loop-taken.invariant.0 in
     let progress = read.progress in
     let took = c.in-Ok.ensures progress read.stands in
@@ -42,7 +42,7 @@ loop-taken-preserved c =
     let R : ℕ → Type 0 = λ d. ReadTo d text after page' next in
     let whole : voxel_count after.depth ≡ voxel_count c.args.depth = ap voxel_count (took.depth ∙ same) in (
       subst R same
-          (read_on text reader after page page' at next progress what read.stands (subst I (sym same) read.inside) (subst T (sym same) read.tells) (subst M (sym same) read.marked) read.reached took (not_end what c.in-default.not-End) (subst N took.depth c.mark-step.ensures.marks)),
+          (read_on text reader after page page' at next progress what read.stands (subst I (sym same) read.inside) (subst T (sym same) read.tells) (subst M (sym same) read.marked) read.reached took (not_end what c.in_default.not-End) (subst N took.depth c.mark_step.ensures.marks)),
       took.within,
-      λ k past. c.mark-step.ensures.rest k (omega (arith, whole, past)) ∙ c.loop-taken.invariant.2 k past,
+      λ k past. c.mark_step.ensures.rest k (omega (arith, whole, past)) ∙ c.loop-taken.invariant.2 k past,
     )

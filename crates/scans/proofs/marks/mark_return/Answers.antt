@@ -15,9 +15,9 @@ returns-then-hit c =
     let long' : voxel_count depth ≤ length traced = omega (arith, long, c.trace.auto.page) in
     record {
       marks = λ returns before.
-          line_marked depth o p returns c.args.hit page traced c.mark-end.new.page before (can_trace depth o p page long c.requires.from c.requires.to) c.trace.ensures.marks
-          (λ i inside. c.mark-end.ensures i ∙ ended_inside depth o p traced long' i inside ∙ ap (λ b. cond (b && same_voxel (voxel_of p) (voxel_at depth i)) 2 (get_or traced i 0)) (sym c.if-hit.true));
-      rest = λ k past. c.mark-end.ensures k ∙ ended_rest depth o p traced long' k past ∙ c.trace.ensures.marks k ∙ traced_rest depth o p page long k past;
+          line_marked depth o p returns c.args.hit page traced c.mark_end.new.page before (can_trace depth o p page long c.requires.from c.requires.to) c.trace.ensures.marks
+          (λ i inside. c.mark_end.ensures i ∙ ended_inside depth o p traced long' i inside ∙ ap (λ b. cond (b && same_voxel (voxel_of p) (voxel_at depth i)) 2 (get_or traced i 0)) (sym c.if-hit.true));
+      rest = λ k past. c.mark_end.ensures k ∙ ended_rest depth o p traced long' k past ∙ c.trace.ensures.marks k ∙ traced_rest depth o p page long k past;
     }
 
 pub returns-else-hit : goal.returns-else-hit

@@ -29,7 +29,7 @@ counting-tally-requires g c =
     let small = count_small (s.depth store) in
     let sets = count_le n (is_set (s.depth store) (s.closed store) (s.limit store) events (s.cell store)) in
     let skips = count_le n (is_skipped (s.depth store) (s.closed store) (s.limit store) events (s.cell store)) in
-    let end : c.voxel-count-index-end.result ≡ voxel_count (s.depth store) = c.voxel-count-index-end.ensures ∙ ap voxel_count c.depth.ensures in
+    let end : c.voxel_count-index-end.result ≡ voxel_count (s.depth store) = c.voxel_count-index-end.ensures ∙ ap voxel_count c.depth.ensures in
     let inside : n < voxel_count (s.depth store) = omega (arith, end, c.loop-index-test.true) in
     (omega (arith, so_far.sets), omega (arith, so_far.skips))
 
@@ -44,8 +44,8 @@ returns-in-Err g c =
     let inv = c.loop-index.invariant in
     let so_far = inv.3 in
     let done = c.in-Err.ensures in
-    let after = c.visit-voxel.new.store in
-    let end : c.voxel-count-index-end.result ≡ voxel_count (s.depth began) = c.voxel-count-index-end.ensures ∙ ap voxel_count c.depth.ensures in
+    let after = c.visit_voxel.new.store in
+    let end : c.voxel_count-index-end.result ≡ voxel_count (s.depth began) = c.voxel_count-index-end.ensures ∙ ap voxel_count c.depth.ensures in
     let inside : n < voxel_count (s.depth began) = omega (arith, end, c.loop-index-test.true) in
     let P : ℕ → (ℕ → Bool) → ℕ → Type 0 = λ d cl l. VisitDone d cl l (s.cell store) (s.cell after) n (mark_event (get_or page n 0)) (Err c.in-Err.refusal) in
     let Q : ℕ → Type 0 = λ m. VisitDone (s.depth began) (s.closed began) (s.limit began) (s.cell store) (s.cell after) n (mark_event m) (Err c.in-Err.refusal) in
@@ -59,11 +59,11 @@ returns-in-Err g c =
     let limit_is = done.limit ∙ inv.2 in
     record {
       answer = turn_refused (s.depth began) (s.closed began) (s.limit began) marks (s.cell began) (s.cell store) (s.cell after) page n c.loop-index.tally c.in-Err.refusal inside so_far visited;
-      cells = c.take-back.ensures.cells (page_events marks) (s.cell began) (subst₃ M (sym depth_is) (sym closed_is) (sym limit_is) stood);
+      cells = c.take_back.ensures.cells (page_events marks) (s.cell began) (subst₃ M (sym depth_is) (sym closed_is) (sym limit_is) stood);
       rest = λ k past. so_far.ahead k (omega (arith, inside, past));
-      depth = c.take-back.ensures.depth ∙ depth_is;
-      closed = c.take-back.ensures.closed ∙ closed_is;
-      limit = c.take-back.ensures.limit ∙ limit_is;
+      depth = c.take_back.ensures.depth ∙ depth_is;
+      closed = c.take_back.ensures.closed ∙ closed_is;
+      limit = c.take_back.ensures.limit ∙ limit_is;
     }
 
 pub loop-index-preserved : goal.loop-index-preserved
@@ -77,9 +77,9 @@ loop-index-preserved g c =
     let inv = c.loop-index.invariant in
     let so_far = inv.3 in
     let done = c.in-Ok.ensures in
-    let after = c.visit-voxel.new.store in
+    let after = c.visit_voxel.new.store in
     let visit = c.in-Ok.visit in
-    let end : c.voxel-count-index-end.result ≡ voxel_count (s.depth began) = c.voxel-count-index-end.ensures ∙ ap voxel_count c.depth.ensures in
+    let end : c.voxel_count-index-end.result ≡ voxel_count (s.depth began) = c.voxel_count-index-end.ensures ∙ ap voxel_count c.depth.ensures in
     let room : n < length page = omega (arith, end, c.loop-index-test.true, c.requires.1, c.loop-index.auto.page) in
     let P : ℕ → (ℕ → Bool) → ℕ → Type 0 = λ d cl l. VisitDone d cl l (s.cell store) (s.cell after) n (mark_event (get_or page n 0)) (Ok visit) in
     let Q : ℕ → Type 0 = λ m. VisitDone (s.depth began) (s.closed began) (s.limit began) (s.cell store) (s.cell after) n (mark_event m) (Ok visit) in
@@ -104,7 +104,7 @@ returns g c =
     let closed = s.closed began in
     let limit = s.limit began in
     let cells = s.cell began in
-    let end : c.voxel-count-index-end.result ≡ voxel_count depth = c.voxel-count-index-end.ensures ∙ ap voxel_count c.depth.ensures in
+    let end : c.voxel_count-index-end.result ≡ voxel_count depth = c.voxel_count-index-end.ensures ∙ ap voxel_count c.depth.ensures in
     let whole : n ≡ voxel_count depth = omega (arith, end, c.loop-index-test.false, c.loop-index.auto.index-end) in
     let none : (k : ℕ) → k < voxel_count depth → passes_limit depth closed limit events cells k ≡ false =
     λ k h. within_limit depth closed limit events cells k (so_far.mid.fitted (suc k) (omega (arith, whole))) in

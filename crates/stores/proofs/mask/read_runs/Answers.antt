@@ -7,14 +7,14 @@ use Rattle.stores.proofs.mask.read_runs.Goals as goal
 pub returns-then-bytes-ne0 : goal.returns-then-bytes-ne0
 returns-then-bytes-ne0 c = fill_ragged c.args.bytes.now c.if-bytes-ne0.true
 
-pub returns-then-pairs-gt-MOST-RUNS : goal.returns-then-pairs-gt-MOST-RUNS
-returns-then-pairs-gt-MOST-RUNS c = fill_many c.args.bytes.now (omega arith) (omega arith)
+pub returns-then-pairs-gt-MOST_RUNS : goal.returns-then-pairs-gt-MOST_RUNS
+returns-then-pairs-gt-MOST_RUNS c = fill_many c.args.bytes.now (omega arith) (omega arith)
 
 pub returns-in-Some : goal.returns-in-Some
 returns-in-Some c =
     let bytes = c.args.bytes.now in
     let pair = c.loop-pair.pair in
-    let judged : run_fault c.run-at-run.result c.loop-pair.least ≡ pair_fault bytes pair = ap₂ run_fault c.run-at-run.ensures c.loop-pair.invariant.1 in
+    let judged : run_fault c.run_at-run.result c.loop-pair.least ≡ pair_fault bytes pair = ap₂ run_fault c.run_at-run.ensures c.loop-pair.invariant.1 in
     fill_wrong bytes pair _ (omega arith) (omega arith) (omega arith) c.loop-pair.invariant.3 (sym judged ∙ sym c.in-Some.ensures)
 
 pub loop-pair-preserved : goal.loop-pair-preserved
@@ -22,15 +22,15 @@ loop-pair-preserved c =
     let bytes = c.args.bytes.now in
     let pair = c.loop-pair.pair in
     let runs = c.loop-pair.runs in
-    let run = c.run-at-run.result in
+    let run = c.run_at-run.result in
     let room : pair < length runs = omega (arith, c.loop-pair.invariant.0) in
-    let judged : run_fault run c.loop-pair.least ≡ pair_fault bytes pair = ap₂ run_fault c.run-at-run.ensures c.loop-pair.invariant.1 in (
+    let judged : run_fault run c.loop-pair.least ≡ pair_fault bytes pair = ap₂ run_fault c.run_at-run.ensures c.loop-pair.invariant.1 in (
       length-set runs pair run ∙ c.loop-pair.invariant.0,
-      ap (λ n. n + 1) (c.end-least.ensures ∙ ap run_end c.run-at-run.ensures) ∙ sym (ap (least_offset bytes) (add-one pair)),
+      ap (λ n. n + 1) (c.end-least.ensures ∙ ap run_end c.run_at-run.ensures) ∙ sym (ap (least_offset bytes) (add-one pair)),
       below_more _ _
           (λ k h. let ne : k ≢ pair = omega arith in get_or-set_other runs pair k run no_run ne ∙ c.loop-pair.invariant.2 k h)
-          (get_or-set_same runs pair run no_run room ∙ c.run-at-run.ensures),
-      below_more _ _ c.loop-pair.invariant.3 (sym judged ∙ sym c.in-default.ensures),
+          (get_or-set_same runs pair run no_run room ∙ c.run_at-run.ensures),
+      below_more _ _ c.loop-pair.invariant.3 (sym judged ∙ sym c.in_default.ensures),
     )
 
 pub returns : goal.returns

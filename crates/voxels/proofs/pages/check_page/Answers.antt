@@ -6,8 +6,8 @@ use Rattle.voxels.proofs.pages.check_page.Goals as goal
 pub returns-then-depth-eq0 : goal.returns-then-depth-eq0
 returns-then-depth-eq0 c = sym (over_no_map c.args.depth c.args.words (taken tt) c.if-depth-eq0.true)
 
-pub returns-then-words-voxel-count : goal.returns-then-words-voxel-count
-returns-then-words-voxel-count c = sym (over_short c.args.depth c.args.words (taken tt) c.if-depth-eq0.false (omega (arith, c.voxel-count.ensures, c.if-words-voxel-count.true)))
+pub returns-then-words-voxel_count : goal.returns-then-words-voxel_count
+returns-then-words-voxel_count c = sym (over_short c.args.depth c.args.words (taken tt) c.if-depth-eq0.false (omega (arith, c.voxel_count.ensures, c.if-words-voxel_count.true)))
 
 pub returns : goal.returns
-returns c = sym (over_enough c.args.depth c.args.words (taken tt) (omega (arith, c.if-depth-eq0.false)) (omega (arith, c.voxel-count.ensures, c.if-words-voxel-count.false)))
+returns c = sym (over_enough c.args.depth c.args.words (taken tt) (omega (arith, c.if-depth-eq0.false)) (omega (arith, c.voxel_count.ensures, c.if-words-voxel_count.false)))

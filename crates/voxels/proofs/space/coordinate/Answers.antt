@@ -8,9 +8,9 @@ pub loop-level-init : goal.loop-level-init
 unfolding sum
 loop-level-init c = (refl, omega arith, refl)
 
-pub overflow-add-coordinate : goal.overflow-add-coordinate
-overflow-add-coordinate c =
-    let level = c.loop-level.-level in
+pub overflow_add-coordinate : goal.overflow_add-coordinate
+overflow_add-coordinate c =
+    let level = c.loop-level._level in
     let w = c.loop-level.weight in
     let b = bit c.args.axis (c.loop-level.rest % 8) in
     let small : w * b ≤ w * 1 = mul-le-mul_left w (omega arith) in
@@ -19,7 +19,7 @@ overflow-add-coordinate c =
 
 pub loop-level-preserved : goal.loop-level-preserved
 loop-level-preserved c =
-    let level = c.loop-level.-level in
+    let level = c.loop-level._level in
     let quotient = quotient_more c.args.index level in
     let more = coordinate_more c.args.axis level c.args.index in
     (omega (arith, pow_more 2 level), cc, cc)

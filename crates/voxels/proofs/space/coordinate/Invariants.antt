@@ -3,4 +3,4 @@ use Rattle.voxels.specs.Space.{coordinate}
 use Rattle.voxels.proofs.space.coordinate.Given as goal
 
 abbrev pub invariant-loop-level : goal.invariant-loop-level
-invariant-loop-level l = (l.weight ≡ 2 ^ l.-level) × (l.rest ≡ l.index / 8 ^ l.-level) × (l.coordinate ≡ coordinate l.axis l.-level l.index)
+invariant-loop-level l = (l.weight ≡ 2 ^ l._level) × (l.rest ≡ l.index / 8 ^ l._level) × (l.coordinate ≡ coordinate l.axis l._level l.index)

@@ -19,8 +19,8 @@ side_most d = by_depth (is_depth d) refl
         omega (arith, cond-true (is_depth d) (2 ^ d) 0 e)
     by_depth false e = omega (arith, cond-false (is_depth d) (2 ^ d) 0 e)
 
-pub overflow-mul-limit : goal.overflow-mul-limit
-overflow-mul-limit c = omega (arith, side_most c.args.self.now.depth)
+pub overflow_mul-limit : goal.overflow_mul-limit
+overflow_mul-limit c = omega (arith, side_most c.args.self.now.depth)
 
 pub returns-else-found-limit : goal.returns-else-found-limit
 returns-else-found-limit c =

@@ -7,8 +7,8 @@ use Rattle.scans.proofs.Reading.{no_line, wrong_line, goes_on}
 use Rattle.scans.proofs.reader.Reader.step.Goals as goal
 use Rattle.scans.proofs.reader.Reader.step.Goals.{In-Some}
 
-pub returns-in-default : goal.returns-in-default
-returns-in-default c progress stands = (refl, no_line c.args.self.now.depth c.args.text.now c.args.at progress c.in-default.ensures)
+pub returns-in_default : goal.returns-in_default
+returns-in_default c progress stands = (refl, no_line c.args.self.now.depth c.args.text.now c.args.at progress c.in_default.ensures)
 
 -- the line ends in front of the next
 long : (c : goal.In-Some) → c.args.at + length (take (c.in-Some.end - c.args.at) (drop c.args.at c.args.text.now)) + 1 ≡ c.in-Some.end + 1
@@ -16,17 +16,17 @@ long c =
     let found = c.in-Some.ensures in
     omega (arith, length-between c.args.text.now c.args.at c.in-Some.end (omega (arith, found.1)), found.0)
 
-pub returns-in-default-line-of : goal.returns-in-default-line-of
-returns-in-default-line-of c progress stands = (
+pub returns-in_default-line_of : goal.returns-in_default-line_of
+returns-in_default-line_of c progress stands = (
   refl,
-  wrong_line c.args.self.now.depth c.args.text.now c.args.at progress (c.in-Some.end + 1) _ c.in-Some.ensures.2 (long (goal.at.returns-in-default-line-of c).In-Some) None 4 c.in-default-line-of.ensures refl,
+  wrong_line c.args.self.now.depth c.args.text.now c.args.at progress (c.in-Some.end + 1) _ c.in-Some.ensures.2 (long (goal.at.returns-in_default-line_of c).In-Some) None 4 c.in_default-line_of.ensures refl,
 )
 
 pub returns-in-Err : goal.returns-in-Err
 returns-in-Err c progress stands =
     let judged = c.in-Err.ensures progress stands in (
       judged.0,
-      wrong_line c.args.self.now.depth c.args.text.now c.args.at progress (c.in-Some.end + 1) _ c.in-Some.ensures.2 (long (goal.at.returns-in-Err c).In-Some) (said_by c.in-Some-line-of.line) (number_of c.in-Err.reason) c.in-Some-line-of.ensures judged.1,
+      wrong_line c.args.self.now.depth c.args.text.now c.args.at progress (c.in-Some.end + 1) _ c.in-Some.ensures.2 (long (goal.at.returns-in-Err c).In-Some) (said_by c.in-Some-line_of.line) (number_of c.in-Err.reason) c.in-Some-line_of.ensures judged.1,
     )
 
 pub returns-in-Ok : goal.returns-in-Ok
@@ -38,11 +38,11 @@ returns-in-Ok c progress stands =
       depth = taken.depth;
       further = omega (arith, found.0);
       within = omega (arith, found.1);
-      short = omega (arith, long (goal.at.returns-in-Ok c).In-Some, said_short _ taken.line (c.in-Some-line-of.ensures ∙ taken.said));
+      short = omega (arith, long (goal.at.returns-in-Ok c).In-Some, said_short _ taken.line (c.in-Some-line_of.ensures ∙ taken.said));
       right = taken.right;
       stands = taken.stands;
       names = taken.names;
       goes_on =
           goes_on c.args.self.now.depth c.args.text.now c.args.at progress (c.in-Some.end + 1) _ found.2 (long (goal.at.returns-in-Ok c).In-Some) taken.line
-          (c.in-Some-line-of.ensures ∙ taken.said) taken.right c.take.new.self c.in-Ok.step taken.names;
+          (c.in-Some-line_of.ensures ∙ taken.said) taken.right c.take.new.self c.in-Ok.step taken.names;
     }

@@ -6,8 +6,8 @@ use Rattle.stores.proofs.GridCells.{grid_open, grid_not_open, grid_limit, grid_p
 use Rattle.voxels.proofs.Indices.{count_above}
 use Rattle.stores.proofs.grid.GridStore.set.Goals as goal
 
-pub returns-then-index-voxel-count : goal.returns-then-index-voxel-count
-returns-then-index-voxel-count c =
+pub returns-then-index-voxel_count : goal.returns-then-index-voxel_count
+returns-then-index-voxel_count c =
     record {
       done = record {
         tells = sym (answer_not_open _ _ _ _ _ _ (grid_not_open c.args.self.now.depth c.args.index (omega arith)));
@@ -18,11 +18,11 @@ returns-then-index-voxel-count c =
       limit = refl;
     }
 
-pub returns-then-not-in-range : goal.returns-then-not-in-range
-returns-then-not-in-range c =
+pub returns-then-not-in_range : goal.returns-then-not-in_range
+returns-then-not-in_range c =
     record {
       done = record {
-        tells = sym (answer_out_of_range _ _ _ _ _ _ (grid_open c.args.self.now.depth c.args.index (omega arith)) (sym c.in-range.ensures ∙ c.if-not-in-range.true));
+        tells = sym (answer_out_of_range _ _ _ _ _ _ (grid_open c.args.self.now.depth c.args.index (omega arith)) (sym c.in_range.ensures ∙ c.if-not-in_range.true));
         leaves = λ j. refl;
       };
       depth = refl;
@@ -36,7 +36,7 @@ returns c =
     let words = c.args.self.now.words.now in
     let i = c.args.index in
     let map = count_above depth i (omega arith) in
-    let ranged = sym c.in-range.ensures ∙ c.if-not-in-range.false in
+    let ranged = sym c.in_range.ensures ∙ c.if-not-in_range.false in
     record {
       done = record {
         tells = sym (answer_taken _ _ _ _ _ _ (grid_open depth i (omega arith)) ranged (grid_limit depth (put (grid_cell depth words) i c.args.value) map.0 map.1));

@@ -21,10 +21,10 @@ returns-then-index-ge64 c =
       limit = refl;
     }
 
-pub returns-then-not-in-range : goal.returns-then-not-in-range
-returns-then-not-in-range c =
+pub returns-then-not-in_range : goal.returns-then-not-in_range
+returns-then-not-in_range c =
     record {
-      done = record { tells = sym (answer_out_of_range 2 none 1 nothing c.args.index c.args.value (grid_open 2 c.args.index c.if-index-ge64.false) (sym c.in-range.ensures ∙ c.if-not-in-range.true)); leaves = λ j. refl };
+      done = record { tells = sym (answer_out_of_range 2 none 1 nothing c.args.index c.args.value (grid_open 2 c.args.index c.if-index-ge64.false) (sym c.in_range.ensures ∙ c.if-not-in_range.true)); leaves = λ j. refl };
       depth = refl;
       closed = refl;
       limit = refl;
@@ -36,7 +36,7 @@ returns-in-Unknown c =
     let same : (j : ℕ) → nothing j ≡ put nothing i c.args.value j = λ j. put_nothing i j ∙ ap (λ v. put nothing i v j) (sym c.in-Unknown.is) in
     let fits : blocks_needed 2 (put nothing i c.args.value) ≤ 1 = omega (arith, nothing_needed, ap (blocks_needed 2) (fun_ext same)) in
     record {
-      done = record { tells = sym (answer_taken 2 none 1 nothing i c.args.value (grid_open 2 i c.if-index-ge64.false) (sym c.in-range.ensures ∙ c.if-not-in-range.false) fits); leaves = same };
+      done = record { tells = sym (answer_taken 2 none 1 nothing i c.args.value (grid_open 2 i c.if-index-ge64.false) (sym c.in_range.ensures ∙ c.if-not-in_range.false) fits); leaves = same };
       depth = refl;
       closed = refl;
       limit = refl;
@@ -48,7 +48,7 @@ returns-in-Known c =
     let v = c.in-Known.field-0 in
     let more : 1 < blocks_needed 2 (put nothing i c.args.value) = omega (arith, one_too_many i v c.if-index-ge64.false, ap (λ k. blocks_needed 2 (put nothing i k)) c.in-Known.is) in
     record {
-      done = record { tells = sym (answer_past_limit 2 none 1 nothing i c.args.value (grid_open 2 i c.if-index-ge64.false) (sym c.in-range.ensures ∙ c.if-not-in-range.false) more); leaves = λ j. refl };
+      done = record { tells = sym (answer_past_limit 2 none 1 nothing i c.args.value (grid_open 2 i c.if-index-ge64.false) (sym c.in_range.ensures ∙ c.if-not-in_range.false) more); leaves = λ j. refl };
       depth = refl;
       closed = refl;
       limit = refl;

@@ -18,17 +18,17 @@ digit_small c =
     let weight = pow_small 8 level (lit< tt) (omega arith) in
     mul-le c.loop-level.weight c.octant.result (8 ^ 4) 7 (omega arith) (omega (arith, octant_le level c.args.self))
 
-pub overflow-mul-index : goal.overflow-mul-index
-overflow-mul-index c = omega (arith, digit_small c)
+pub overflow_mul-index : goal.overflow_mul-index
+overflow_mul-index c = omega (arith, digit_small c)
 
-pub overflow-add-index : goal.overflow-add-index
-overflow-add-index c =
+pub overflow_add-index : goal.overflow_add-index
+overflow_add-index c =
     let level = c.loop-level.level in
     let weight = pow_small 8 level (lit< tt) (omega arith) in
     omega (arith, digit_small c, index_below level c.args.self)
 
-pub overflow-mul-weight : goal.overflow-mul-weight
-overflow-mul-weight c =
+pub overflow_mul-weight : goal.overflow_mul-weight
+overflow_mul-weight c =
     let weight = pow_small 8 c.loop-level.level (lit< tt) (omega arith) in
     omega arith
 
