@@ -21,13 +21,13 @@ pub struct Scanned {
 
 // Takes a scan's text into the cells of a store, by way of a lent page. A refused scan changes no cell.
 pub fn scan<S: Store>(store: &mut S, page: &mut [u16], text: &[u8]) -> Result<Scanned, Refusal>
-    ensures answer { told_scan result ≡ scan_answer (depth store.old) (closed store.old) (limit store.old) (cell store.old) (length page.old) text.now }
-    ensures cells { (i : ℕ) → cell store.new i ≡ scan_cells (depth store.old) (closed store.old) (limit store.old) (cell store.old) (told_scan result) text.now i }
-    ensures page { page.new ≡ wiped (guarded (depth store.old) page.old) page.old }
-    ensures order { OrderFree (depth store.old) (closed store.old) (limit store.old) (cell store.old) text.now }
-    ensures depth { depth store.new ≡ depth store.old }
-    ensures closed { closed store.new ≡ closed store.old }
-    ensures limit { limit store.new ≡ limit store.old }
+    ensures answer { told_scan result ≡ scan_answer (S.depth store.old) (S.closed store.old) (S.limit store.old) (S.cell store.old) (length page.old) text.now }
+    ensures cells { (i : ℕ) → S.cell store.new i ≡ scan_cells (S.depth store.old) (S.closed store.old) (S.limit store.old) (S.cell store.old) (told_scan result) text.now i }
+    ensures page { page.new ≡ wiped (guarded (S.depth store.old) page.old) page.old }
+    ensures order { OrderFree (S.depth store.old) (S.closed store.old) (S.limit store.old) (S.cell store.old) text.now }
+    ensures depth { S.depth store.new ≡ S.depth store.old }
+    ensures closed { S.closed store.new ≡ S.closed store.old }
+    ensures limit { S.limit store.new ≡ S.limit store.old }
 {
     let depth = store.depth();
     if depth == 0 {
@@ -48,14 +48,14 @@ pub fn scan<S: Store>(store: &mut S, page: &mut [u16], text: &[u8]) -> Result<Sc
 
 // The scan itself, over words that somebody else wipes.
 fn scan_over<S: Store>(store: &mut S, words: &mut [u16], text: &[u8]) -> Result<Scanned, Refusal>
-    requires some { 1 ≤ depth store.old }
-    requires long { voxel_count (depth store.old) ≤ length words.old }
-    ensures answer { told_scan result ≡ text_answer (depth store.old) (closed store.old) (limit store.old) (cell store.old) (read_text (depth store.old) text.now) }
-    ensures cells { (i : ℕ) → cell store.new i ≡ scan_cells (depth store.old) (closed store.old) (limit store.old) (cell store.old) (told_scan result) text.now i }
-    ensures rest { (k : ℕ) → voxel_count (depth store.old) ≤ k → slice_index words.new k ≡ slice_index words.old k }
-    ensures depth { depth store.new ≡ depth store.old }
-    ensures closed { closed store.new ≡ closed store.old }
-    ensures limit { limit store.new ≡ limit store.old }
+    requires some { 1 ≤ S.depth store.old }
+    requires long { voxel_count (S.depth store.old) ≤ length words.old }
+    ensures answer { told_scan result ≡ text_answer (S.depth store.old) (S.closed store.old) (S.limit store.old) (S.cell store.old) (read_text (S.depth store.old) text.now) }
+    ensures cells { (i : ℕ) → S.cell store.new i ≡ scan_cells (S.depth store.old) (S.closed store.old) (S.limit store.old) (S.cell store.old) (told_scan result) text.now i }
+    ensures rest { (k : ℕ) → voxel_count (S.depth store.old) ≤ k → slice_index words.new k ≡ slice_index words.old k }
+    ensures depth { S.depth store.new ≡ S.depth store.old }
+    ensures closed { S.closed store.new ≡ S.closed store.old }
+    ensures limit { S.limit store.new ≡ S.limit store.old }
 {
     let depth = store.depth();
     wipe_voxels(words, depth);

@@ -33,11 +33,11 @@ fn event_of(mark: u16) -> Option<Event>
 
 // Lets an open voxel see its event, and skips a closed one.
 fn visit_voxel<S: Store>(store: &mut S, index: usize, mark: u16) -> Result<Visit, Refusal>
-    requires { index < voxel_count (depth store.old) }
-    ensures done { VisitDone (depth store.old) (closed store.old) (limit store.old) (cell store.old) (cell store.new) index (mark_event mark) result }
-    ensures depth { depth store.new ≡ depth store.old }
-    ensures closed { closed store.new ≡ closed store.old }
-    ensures limit { limit store.new ≡ limit store.old }
+    requires { index < voxel_count (S.depth store.old) }
+    ensures done { VisitDone (S.depth store.old) (S.closed store.old) (S.limit store.old) (S.cell store.old) (S.cell store.new) index (mark_event mark) result }
+    ensures depth { S.depth store.new ≡ S.depth store.old }
+    ensures closed { S.closed store.new ≡ S.closed store.old }
+    ensures limit { S.limit store.new ≡ S.limit store.old }
 {
     let Some(event) = event_of(mark) else {
         return Ok(Visit::Nothing);
@@ -88,10 +88,10 @@ impl Visit {
 // Sets the voxels below `end` back to the cells that the page keeps of them, the last one first: what then stands fitted the limit before, so no set is refused.
 fn take_back<S: Store>(store: &mut S, page: &[u16], end: usize)
     requires { end ≤ length page.now }
-    ensures cells { TakenBack (depth store.old) (closed store.old) (limit store.old) (cell store.old) (cell store.new) page.now end }
-    ensures depth { depth store.new ≡ depth store.old }
-    ensures closed { closed store.new ≡ closed store.old }
-    ensures limit { limit store.new ≡ limit store.old }
+    ensures cells { TakenBack (S.depth store.old) (S.closed store.old) (S.limit store.old) (S.cell store.old) (S.cell store.new) page.now end }
+    ensures depth { S.depth store.new ≡ S.depth store.old }
+    ensures closed { S.closed store.new ≡ S.closed store.old }
+    ensures limit { S.limit store.new ≡ S.limit store.old }
 {
     for index in (0..end).rev() {
         let word = page[index];
@@ -103,13 +103,13 @@ fn take_back<S: Store>(store: &mut S, page: &[u16], end: usize)
 
 // Lets every open voxel see what its mark says, in rising index, and skips closed ones. A refused set refuses the sweep, and all cells go back.
 pub fn sweep_marks<S: Store>(store: &mut S, page: &mut [u16]) -> Result<Tally, Refusal>
-    requires { (1 ≤ depth store.old) × (voxel_count (depth store.old) ≤ length page.old) }
-    ensures answer { told_figures result ≡ sweep_answer (depth store.old) (closed store.old) (limit store.old) (page_events page.old) (cell store.old) }
-    ensures cells { (i : ℕ) → cell store.new i ≡ swept_cells (depth store.old) (closed store.old) (limit store.old) (page_events page.old) (cell store.old) (told_figures result) i }
-    ensures rest { (k : ℕ) → voxel_count (depth store.old) ≤ k → slice_index page.new k ≡ slice_index page.old k }
-    ensures depth { depth store.new ≡ depth store.old }
-    ensures closed { closed store.new ≡ closed store.old }
-    ensures limit { limit store.new ≡ limit store.old }
+    requires { (1 ≤ S.depth store.old) × (voxel_count (S.depth store.old) ≤ length page.old) }
+    ensures answer { told_figures result ≡ sweep_answer (S.depth store.old) (S.closed store.old) (S.limit store.old) (page_events page.old) (S.cell store.old) }
+    ensures cells { (i : ℕ) → S.cell store.new i ≡ swept_cells (S.depth store.old) (S.closed store.old) (S.limit store.old) (page_events page.old) (S.cell store.old) (told_figures result) i }
+    ensures rest { (k : ℕ) → voxel_count (S.depth store.old) ≤ k → slice_index page.new k ≡ slice_index page.old k }
+    ensures depth { S.depth store.new ≡ S.depth store.old }
+    ensures closed { S.closed store.new ≡ S.closed store.old }
+    ensures limit { S.limit store.new ≡ S.limit store.old }
 {
     let mut tally = Tally { set: 0, skipped: 0 };
     for index in 0..voxel_count(store.depth()) {

@@ -8,10 +8,10 @@ use voxels::{Event, Refusal};
 
 // Lets a cell of any store see a hit or a miss: a set of the updated cell, refused as that set is.
 pub fn apply<S: Store>(store: &mut S, index: usize, event: Event) -> Result<(), Refusal>
-    ensures done { SetDone (depth store.old) (closed store.old) (limit store.old) (cell store.old) index (updated (cell store.old index) event) (told result) (cell store.new) }
-    ensures depth { depth store.new ≡ depth store.old }
-    ensures closed { closed store.new ≡ closed store.old }
-    ensures limit { limit store.new ≡ limit store.old }
+    ensures done { SetDone (S.depth store.old) (S.closed store.old) (S.limit store.old) (S.cell store.old) index (updated (S.cell store.old index) event) (told result) (S.cell store.new) }
+    ensures depth { S.depth store.new ≡ S.depth store.old }
+    ensures closed { S.closed store.new ≡ S.closed store.old }
+    ensures limit { S.limit store.new ≡ S.limit store.old }
 {
     let before = store.read(index);
     store.set(index, before.updated(event))

@@ -6,9 +6,9 @@ use voxels::{Cell, Refusal};
 
 // Puts a cell and gives back the one that was there. That nothing else changes, and that a refused one changes nothing, follows from what a store means.
 pub fn exchange<S: Store>(store: &mut S, index: usize, value: Cell) -> Result<Cell, Refusal>
-    ensures taken { MatchResult result (λ old. (old ≡ cell store.old index) × ((i : ℕ) → cell store.new i ≡ put (cell store.old) index value i)) (λ _. (i : ℕ) → cell store.new i ≡ cell store.old i) }
-    ensures depth { depth store.new ≡ depth store.old }
-    ensures closed { closed store.new ≡ closed store.old }
+    ensures taken { MatchResult result (λ old. (old ≡ S.cell store.old index) × ((i : ℕ) → S.cell store.new i ≡ put (S.cell store.old) index value i)) (λ _. (i : ℕ) → S.cell store.new i ≡ S.cell store.old i) }
+    ensures depth { S.depth store.new ≡ S.depth store.old }
+    ensures closed { S.closed store.new ≡ S.closed store.old }
 {
     let old = store.read(index);
     store.set(index, value)?;

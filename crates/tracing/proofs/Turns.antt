@@ -48,13 +48,13 @@ module _ (o p : Position) where
 
     module _ (words : List ℕ) (walk : Walk) (turns : ℕ) (walked : Walked depth page words walk turns) where
       next_is : turns < total → First o p walked.done (number (next_of walk))
-      next_is h = rw walked.walk_is (first_next o p walked.done (omega (arith, walked.turns-are)))
+      next_is h = rw walked.walk_is (first_next o p walked.done (omega (arith, walked.turns_are)))
 
       pub walked_more : turns < total → (v : Voxel) → v ≡ current_voxel walk → (new : List ℕ) → ((i : ℕ) → get_or new i 0 ≡ marked_word depth v words i) → (next : Walk) → next ≡ crossed_on walk (next_of walk) → Walked depth page new next (turns + 1)
       walked_more h v here new marked next crossed = record {
         done = bump s n;
         walk_is = crossed ∙ ap (λ (w : Walk). crossed_on w d) walked.walk_is ∙ crossed_on_lem o p n d first.some_left;
-        turns_are = omega (arith, bump_sum n d, walked.turns-are);
+        turns_are = omega (arith, bump_sum n d, walked.turns_are);
         progress = progress_more o p n s walked.progress first;
         words_are = λ i. word_more o p depth page words new n s i walked.progress first (walked.words_are i) (marked i ∙ ap (λ (u : Voxel). marked_word depth u words i) (here ∙ ap current_voxel walked.walk_is));
       }
@@ -90,7 +90,7 @@ module _ (o p : Position) where
               let x = walked.progress.within 0 in
               let y = walked.progress.within 1 in
               let z = walked.progress.within 2 in
-              on (omega (arith, walked.turns-are)) (omega (arith, walked.turns-are)) (omega (arith, walked.turns-are)) a h
+              on (omega (arith, walked.turns_are)) (omega (arith, walked.turns_are)) (omega (arith, walked.turns_are)) a h
             where
               on : walked.done 0 ≡ crossings o p 0 → walked.done 1 ≡ crossings o p 1 → walked.done 2 ≡ crossings o p 2 → (a : ℕ) → a < 3 → walked.done a ≡ crossings o p a
               on x y z zero h = x
