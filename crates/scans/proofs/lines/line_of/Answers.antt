@@ -3,7 +3,7 @@ use Rattle.scans.proofs.Letters.{said_empty, said_origin, said_hit, said_far, sa
 use Rattle.scans.proofs.lines.line_of.Goals as goal
 
 pub returns-in_err-letter : goal.returns-in_err-letter
-returns-in_err-letter c = rw c.from-residual.ensures (said_empty c.args.bytes.now c.in_err-letter.ensures.cases)
+returns-in_err-letter c = rw c.from_residual.ensures (said_empty c.args.bytes.now c.in_err-letter.ensures.cases)
 
 pub returns-in-O : goal.returns-in-O
 returns-in-O c =

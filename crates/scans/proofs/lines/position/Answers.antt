@@ -6,10 +6,10 @@ use Rattle.scans.specs.Lines.{number_in}
 use Rattle.scans.proofs.Numbers.{together, position_ahead, two_pieces, three_pieces, four_pieces, more_pieces, without_x, without_y, without_z, with_all}
 use Rattle.scans.proofs.Pieces.{some_piece}
 use Rattle.scans.proofs.lines.position.Goals as goal
-use Rattle.scans.proofs.lines.position.Goals.{In-default}
+use Rattle.scans.proofs.lines.position.Goals.{In_default}
 
 pub returns-in_err-first : goal.returns-in_err-first
-returns-in_err-first c = c.from-residual.ensures ∙ sym (ap position_of c.in_err-first.ensures)
+returns-in_err-first c = c.from_residual.ensures ∙ sym (ap position_of c.in_err-first.ensures)
 
 pub returns-then-first-ne0 : goal.returns-then-first-ne0
 returns-then-first-ne0 c =
@@ -21,11 +21,11 @@ returns-then-first-ne0 c =
 
 pub returns-in_err-second : goal.returns-in_err-second
 returns-in_err-second c =
-    c.from-residual-in_err-second.ensures ∙ sym (two_pieces c.in_ok-first.ensures.2 c.in_err-second.ensures)
+    c.from_residual-in_err-second.ensures ∙ sym (two_pieces c.in_ok-first.ensures.2 c.in_err-second.ensures)
 
 pub returns-in_err-third : goal.returns-in_err-third
 returns-in_err-third c =
-    c.from-residual-in_err-third.ensures ∙ sym (three_pieces c.in_ok-first.ensures.2 c.in_ok-second.ensures.2 c.in_err-third.ensures)
+    c.from_residual-in_err-third.ensures ∙ sym (three_pieces c.in_ok-first.ensures.2 c.in_ok-second.ensures.2 c.in_err-third.ensures)
 
 pub returns-in-Some : goal.returns-in-Some
 returns-in-Some c =
@@ -33,7 +33,7 @@ returns-in-Some c =
     sym (more_pieces c.in_ok-first.ensures.2 c.in_ok-second.ensures.2 c.in_ok-third.ensures.2 c.in-Some.ensures.2 further.2)
 
 -- the three numbers stand between the spaces
-three : (c : goal.In-default) →
+three : (c : goal.In_default) →
     position_of (pieces_from 32 [] c.args.numbers.now) ≡
     together
     (number_in (take (c.in_ok-second.second - (c.in_ok-first.first + 1)) (drop (c.in_ok-first.first + 1) c.args.numbers.now)))
@@ -49,22 +49,22 @@ three c =
 
 pub returns-in_err-x : goal.returns-in_err-x
 returns-in_err-x c =
-    c.from-residual-in_err-x.ensures ∙ sym (three (goal.at.returns-in_err-x c).In-default ∙ without_x _ _ _ c.in_err-x.ensures)
+    c.from_residual-in_err-x.ensures ∙ sym (three (goal.at.returns-in_err-x c).In_default ∙ without_x _ _ _ c.in_err-x.ensures)
 
 pub returns-in_err-y : goal.returns-in_err-y
 returns-in_err-y c =
-    c.from-residual-in_err-y.ensures
-    ∙ sym (three (goal.at.returns-in_err-y c).In-default ∙ without_y _ _ _ c.in_ok-x.x c.in_ok-x.ensures c.in_err-y.ensures)
+    c.from_residual-in_err-y.ensures
+    ∙ sym (three (goal.at.returns-in_err-y c).In_default ∙ without_y _ _ _ c.in_ok-x.x c.in_ok-x.ensures c.in_err-y.ensures)
 
 pub returns-in_err-z : goal.returns-in_err-z
 returns-in_err-z c =
-    c.from-residual-in_err-z.ensures
+    c.from_residual-in_err-z.ensures
     ∙ sym
-    (three (goal.at.returns-in_err-z c).In-default
+    (three (goal.at.returns-in_err-z c).In_default
     ∙ without_z _ _ _ c.in_ok-x.x c.in_ok-y.y c.in_ok-x.ensures c.in_ok-y.ensures c.in_err-z.ensures)
 
 pub returns : goal.returns
 returns c =
     sym
-    (three (goal.at.returns c).In-default
+    (three (goal.at.returns c).In_default
     ∙ with_all _ _ _ c.in_ok-x.x c.in_ok-y.y c.in_ok-z.z c.in_ok-x.ensures c.in_ok-y.ensures c.in_ok-z.ensures)

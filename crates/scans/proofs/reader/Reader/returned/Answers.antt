@@ -10,7 +10,7 @@ returns-in_err-end c progress stands =
     let before = c.args.self.now in
     let numbers = c.args.numbers.now in
     let is_hit = c.args.hit in
-    let p = err_from_is_err_and c.from-residual.result c.from-residual.ensures.1 in
+    let p = err_from_is_err_and c.from_residual.result c.from_residual.ensures.1 in
     subst (λ r. Judged before before progress (with_numbers (return_said is_hit) numbers) r) (sym p.1)
     (refl, no_place (return_said is_hit) numbers before.depth progress p.0 (return_out before c.args.origin c.args.returns progress numbers is_hit c.requires stands) (ap Err p.2 ∙ c.in_err-end.ensures))
 

@@ -14,7 +14,7 @@ returns-in_err-origin c progress stands =
     let numbers = c.in-Start-Origin.numbers.now in
     let first : progress ≡ nothing = at_stage progress c.in-Start-Origin.is-0 stands in
     let says = ap said_by c.in-Start-Origin.is-1 in
-    let p = err_from_is_err_and c.from-residual.result c.from-residual.ensures.1 in
+    let p = err_from_is_err_and c.from_residual.result c.from_residual.ensures.1 in
     subst (λ r. Judged before before progress (said_by c.args.line) r) (sym p.1) (
       refl,
       ap (fault before.depth progress) says
