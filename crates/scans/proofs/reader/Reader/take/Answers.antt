@@ -8,8 +8,8 @@ use Rattle.scans.specs.Texts.{Progress, nothing, origin, hit, far, line_fault, o
 use Rattle.scans.proofs.Judging.{at_stage, no_place, wrong_place, origin_taken}
 use Rattle.scans.proofs.reader.Reader.take.Goals as goal
 
-pub returns-in_err-origin : goal.returns-in_err-origin
-returns-in_err-origin c progress stands =
+pub returns-in_err-origin-in-Start-Origin : goal.returns-in_err-origin-in-Start-Origin
+returns-in_err-origin-in-Start-Origin c progress stands =
     let before = c.args.self.now in
     let numbers = c.in-Start-Origin.numbers.now in
     let first : progress ≡ nothing = at_stage progress c.in-Start-Origin.is-0 stands in
@@ -20,12 +20,12 @@ returns-in_err-origin c progress stands =
       ap (fault before.depth progress) says
           ∙ no_place origin numbers before.depth progress p.0
           (λ q out. ap (λ o. line_fault before.depth o (origin q)) first ∙ cond-true (outside before.depth q) (Some 6) None out)
-          (ap Err p.2 ∙ c.in_err-origin.ensures),
+          (ap Err p.2 ∙ c.in_err-origin-in-Start-Origin.ensures),
     )
 
-pub returns-in_ok-origin : goal.returns-in_ok-origin
-returns-in_ok-origin c progress stands =
-    origin_taken c.args.self.now progress c.in-Start-Origin.numbers.now (said_by c.args.line) c.in_ok-origin.origin c.in-Start-Origin.is-0 stands (ap said_by c.in-Start-Origin.is-1) c.in_ok-origin.ensures
+pub returns-in_ok-origin-in-Start-Origin : goal.returns-in_ok-origin-in-Start-Origin
+returns-in_ok-origin-in-Start-Origin c progress stands =
+    origin_taken c.args.self.now progress c.in-Start-Origin.numbers.now (said_by c.args.line) c.in_ok-origin-in-Start-Origin.origin c.in-Start-Origin.is-0 stands (ap said_by c.in-Start-Origin.is-1) c.in_ok-origin-in-Start-Origin.ensures
 
 pub returns-in-Start-Hit : goal.returns-in-Start-Hit
 returns-in-Start-Hit c progress stands =
