@@ -42,11 +42,13 @@ def declared(files):
     """The names with a signature in these files, and which of them are fields of a record."""
     names, fields = set(), set()
     for file in files:
-        in_record = False
+        in_record, margin = False, 0
         for line in file.read_text().splitlines():
-            if re.match(r"(pub )?record ", line):
-                in_record = True
-            elif line and not line[0].isspace():
+            # a record stands at the margin or in a module, and its fields deeper than it
+            opens = re.match(r"(\s*)(?:pub )?record ", line)
+            if opens:
+                in_record, margin = True, len(opens.group(1))
+            elif line.strip() and len(line) - len(line.lstrip()) <= margin:
                 in_record = False
             found = SIGNATURE.match(line)
             # the names of goals are Rattle's
@@ -55,6 +57,10 @@ def declared(files):
                 if in_record:
                     fields.add(found.group(3))
     return names, fields
+
+
+def any_of(names):
+    return "|".join(re.escape(name) for name in sorted(names, key=len, reverse=True)) or "(?!)"
 
 
 def main():
@@ -69,16 +75,19 @@ def main():
     assert not clashes, clashes
     assert len(set(new.values())) == len(new), sorted(new.values())
 
-    plain = {name for name in new if name not in fields}
-    pattern = "|".join(re.escape(name) for name in sorted(plain, key=len, reverse=True))
-    word = re.compile(rf"(?<!{PART})(?<!\.)(?:{pattern})(?!{PART})")
-    pattern = "|".join(re.escape(name) for name in sorted(fields & set(new), key=len, reverse=True)) or "(?!)"
-    field = re.compile(rf"(?<!{PART})(?:{pattern})(?!{PART})")
-    for file in proofs + sources:
-        old = file.read_text()
-        text = field.sub(lambda m: new[m.group()], word.sub(lambda m: new[m.group()], old))
-        if text != old:
-            file.write_text(text)
+    def respell(files, found):
+        plain, of_records = found - fields, found & fields
+        word = re.compile(rf"(?<!{PART})(?<!\.)(?:{any_of(plain)})(?!{PART})")
+        field = re.compile(rf"(?<!{PART})(?:{any_of(of_records)})(?!{PART})")
+        for file in files:
+            old = file.read_text()
+            text = field.sub(lambda m: new[m.group()], word.sub(lambda m: new[m.group()], old))
+            if text != old:
+                file.write_text(text)
+
+    respell(proofs, set(new))
+    # a name that Rust could have written is a function's there, and stays
+    respell(sources, {name for name in new if not re.fullmatch(r"[a-z_0-9]+", name)})
     for page in pages:
         old = page.read_text()
         text = re.sub(r"`([a-z]+[a-z0-9]*(?:[A-Z][A-Za-z0-9]*)+)`", lambda m: "`" + new.get(m.group(1), snake(m.group(1))) + "`", old)

@@ -42,12 +42,10 @@ pub fn trace(page: &mut [u16], depth: u8, origin: Position, end: Position) -> us
 fn is_traceable(page: &[u16], depth: u8, origin: Position, end: Position) -> bool
     ensures { result ≡ traceable depth origin end page.now }
 {
-    in_map_lem(depth, origin.voxel())
-        && in_map_lem(depth, end.voxel())
-        && voxel_count(depth) <= page.len()
+    in_map(depth, origin.voxel()) && in_map(depth, end.voxel()) && voxel_count(depth) <= page.len()
 }
 
-fn in_map_lem(depth: u8, voxel: Voxel) -> bool
+fn in_map(depth: u8, voxel: Voxel) -> bool
     ensures { result ≡ in_map depth voxel }
 {
     voxel.index(depth).is_some()
