@@ -4,11 +4,11 @@ set -eu
 
 here=$(cd "$(dirname "$0")" && pwd)
 root=$(cd "$here/.." && pwd)
-(cd "$root" && rt staticlib panel)
+(cd "$root/crates/panel" && rt lib)
 
 made=$(mktemp -d)
 trap 'rm -rf "$made"' EXIT
-${CC:-cc} -std=c99 -Wall -Wextra -O2 -I "$here" -o "$made/check_file" "$here/check_file.c" "$root/target/staticlib/libpanel.a"
+${CC:-cc} -std=c99 -Wall -Wextra -O2 -I "$here" -o "$made/check_file" "$here/check_file.c" "$root/crates/panel/out/libpanel.a"
 cd "$made"
 
 alike=0

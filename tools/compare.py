@@ -16,7 +16,7 @@ sys.dont_write_bytecode = True
 import reference
 
 ROOT = Path(__file__).resolve().parent.parent
-PROGRAM = ROOT / "target/bin/geltzori"
+PROGRAM = ROOT / "crates/geltzori/out/geltzori"
 REFERENCE = ROOT / "tools/reference.py"
 # paths in sessions start from the root
 FILES = Path("target/compare")

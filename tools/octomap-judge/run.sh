@@ -3,7 +3,7 @@
 #
 #     run.sh [-p] [COUNT [SEED]]
 #
-# It needs g++ and liboctomap-dev. GELTZORI names another program than target/bin/geltzori.
+# It needs g++ and liboctomap-dev. GELTZORI names another program than crates/geltzori/out/geltzori.
 set -eu
 
 here=$(cd "$(dirname "$0")" && pwd)
@@ -11,7 +11,7 @@ root=$(cd "$here/../.." && pwd)
 program=
 if [ "${1-}" = -p ]; then
     shift
-    program=${GELTZORI:-$root/target/bin/geltzori}
+    program=${GELTZORI:-$root/crates/geltzori/out/geltzori}
     if [ ! -x "$program" ]; then
         echo "run.sh: no program $program" >&2
         exit 2

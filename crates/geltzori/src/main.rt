@@ -10,14 +10,18 @@ mod units;
 
 use faults::Fault;
 use session::Session;
+use std::process::ExitCode;
 use std::{env, fs, io};
 
-fn main(rt: HostRuntime) -> Result<(), Fault> {
-    let done = run(&rt);
-    if let Err(fault) = &done {
-        eprintln!(rt; "geltzori: {fault}")?;
+fn main(rt: HostRuntime) -> ExitCode {
+    match run(&rt) {
+        Ok(()) => ExitCode::SUCCESS,
+        Err(fault) => {
+            // the status tells it too, where standard error takes nothing
+            let _ = eprintln!(rt; "geltzori: {fault}");
+            ExitCode::FAILURE
+        }
     }
-    done
 }
 
 fn run(rt: &HostRuntime) -> Result<(), Fault> {
