@@ -1,5 +1,5 @@
 -- Two bits for a cube of voxels.
-use Rattle.std.specs.Prelude.{ℕ, zero, suc, ◌+◌, ◌-◌, ◌*◌, ◌/◌, ◌%◌, ◌^◌, Bool, cond, List, [], ◌∷◌, ◌==◌, nat_lt}
+use Rattle.std.specs.Prelude.{ℕ, ◌+◌, ◌-◌, ◌*◌, ◌/◌, ◌%◌, ◌^◌, Bool, cond, List, [], ◌∷◌, ◌==◌, nat_lt}
 use Rattle.voxels.specs.Bounded.{all}
 use Rattle.voxels.specs.declared.cells.State.{State}
 use Rattle.voxels.specs.declared.cells.State.TheVariants.{Unknown, Free, Occupied}

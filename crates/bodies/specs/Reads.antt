@@ -1,5 +1,5 @@
 -- What a read of bytes comes to in the program: what it tells, and the words that keep the states.
-use Rattle.std.specs.Prelude.{◌≡◌, ℕ, ◌+◌, ◌^◌, ◌<◌, ◌≤◌, cond, List, [], ◌∷◌, length, replicate, Ok, Err, Result, ◌==◌, slice_index}
+use Rattle.std.specs.Prelude.{◌≡◌, ℕ, ◌+◌, ◌^◌, ◌<◌, ◌≤◌, cond, List, length, replicate, Ok, Err, Result, ◌==◌, slice_index}
 use Rattle.bodies.specs.Codes.{code_state, state_code}
 use Rattle.bodies.specs.Readings.{Reading, read, wrong}
 use Rattle.bodies.specs.Theorems.{listed}

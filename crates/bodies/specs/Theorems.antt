@@ -1,5 +1,5 @@
 -- Which bytes are a map, and that writing and reading undo one another.
-use Rattle.std.specs.Prelude.{◌≡◌, ℕ, ◌<◌, ◌≤◌, Bool, true, false, cond, ◌&&◌, List, length, nat_le, slice_index_or}
+use Rattle.std.specs.Prelude.{◌≡◌, ℕ, ◌<◌, ◌≤◌, Bool, true, false, ◌&&◌, List, length, nat_le, slice_index_or}
 use Rattle.bodies.specs.Bodies.{body_of, map_body}
 use Rattle.bodies.specs.Readings.{read_body}
 use Rattle.voxels.specs.Cells.{in_range, state_of}

@@ -1,5 +1,5 @@
 -- What a write tells and leaves in the output.
-use Rattle.std.specs.Prelude.{◌≡◌, ℕ, ◌+◌, ◌≤◌, cond, List, ◌++◌, length, take, drop, nat_lt, slice_index}
+use Rattle.std.specs.Prelude.{ℕ, ◌+◌, ◌≤◌, cond, List, ◌++◌, length, take, drop, nat_lt, slice_index}
 use Rattle.bodies.specs.Bodies.{map_body}
 use Rattle.bodies.specs.Codes.{code_state}
 use Rattle.voxels.specs.Pages.{over_page}

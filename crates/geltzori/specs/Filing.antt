@@ -2,7 +2,7 @@
 use Rattle.std.specs.Prelude.{◌≡◌, ℕ, List, length}
 use Rattle.bodies.specs.Bodies.{map_body}
 use Rattle.bodies.specs.Writes.{write_answer}
-use Rattle.voxels.specs.Refusals.{Told, taken, refused, number_of}
+use Rattle.voxels.specs.Refusals.{taken, refused, number_of}
 use Rattle.voxels.specs.declared.cells.Cell.{Cell}
 use Rattle.voxels.specs.declared.refusals.Refusal.{Refusal}
 

@@ -1,11 +1,11 @@
 -- What a reader makes of a line, by its numbers and the progress.
-use Rattle.std.proofs.Common.{◌≡◌, ℕ, ◌+◌, ◌<◌, ◌≤◌, Bool, true, false, cond, leb, List, [], ◌∷◌, length, Some, None, Ok, Err, Option, Result, sym, refl, ap, ◌∙◌, subst, arith}
+use Rattle.std.proofs.Common.{◌≡◌, ℕ, ◌+◌, ◌<◌, ◌≤◌, Bool, true, false, cond, leb, List, [], ◌∷◌, length, Some, None, Ok, Err, Option, sym, refl, ap, ◌∙◌, subst, arith}
 use Rattle.std.proofs.lemmas.Bool.{cond-true, cond-false, le-leb, lt-leb}
 use Rattle.voxels.specs.Refusals.{number_of}
 use Rattle.voxels.specs.declared.refusals.Reason.{Reason}
 use Rattle.voxels.specs.declared.refusals.Reason.TheVariants.{MalformedLine, TickOutside}
 use Rattle.voxels.specs.declared.space.Position.{Position}
-use Rattle.scans.specs.Texts.{Said, origin, hit, far, Return, Progress, nothing, since, outside, line_fault, return_fault, advanced, with_numbers, pieces_from, position_of}
+use Rattle.scans.specs.Texts.{Said, origin, Return, Progress, nothing, since, outside, line_fault, return_fault, advanced, with_numbers, pieces_from, position_of}
 use Rattle.scans.specs.Steps.{AtStage, Stands, Accepted, fault, placed, misplaced, return_said}
 use Rattle.scans.specs.declared.reader.Reader.{Reader}
 use Rattle.scans.specs.declared.reader.Step as step

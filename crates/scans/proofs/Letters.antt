@@ -1,9 +1,8 @@
 -- What a line says, by its letter; and a position, by its pieces.
-use Rattle.std.proofs.Common.{◌≡◌, ℕ, Bool, true, false, cond, ◌&&◌, eqb, List, [], ◌∷◌, length, Some, None, Option, sym, refl, ap, ◌∙◌}
+use Rattle.std.proofs.Common.{◌≡◌, ℕ, true, false, cond, eqb, List, ◌∷◌, length, Some, None, ap, ◌∙◌}
 use Rattle.std.proofs.lemmas.List.{nil_from_length}
-use Rattle.std.proofs.lemmas.Bool.{ne_eqb, eq-eqb, and_left, and_right}
-use Rattle.voxels.specs.declared.space.Position.{Position}
-use Rattle.scans.specs.Texts.{said, origin, hit, far, end, with_numbers, position_of, is_number, decimal}
+use Rattle.std.proofs.lemmas.Bool.{ne_eqb}
+use Rattle.scans.specs.Texts.{said, origin, hit, far, end, with_numbers}
 
 pub said_empty : (line : List ℕ) → length line ≡ 0 → said line ≡ None
 unfolding said

@@ -1,12 +1,11 @@
 -- A reading with its marks, one line further.
-use Rattle.std.proofs.Common.{◌≡◌, ℕ, ◌+◌, ◌*◌, ◌<◌, ◌≤◌, Bool, true, false, cond, leb, List, [], ◌∷◌, length, get_or, Some, None, Option, sym, refl, ap, ◌∙◌, subst, ⊎_elim, arith}
+use Rattle.std.proofs.Common.{◌≡◌, ℕ, ◌<◌, Bool, true, false, leb, List, [], ◌∷◌, length, Some, None, Option, sym, refl, ap, ◌∙◌, subst, ⊎_elim, arith}
 use Rattle.std.proofs.lemmas.Bool.{cases_Bool, cond-true, cond-false, leb-false}
-use Rattle.voxels.specs.Space.{voxel_at, voxel_count}
 use Rattle.voxels.specs.declared.space.Position.{Position}
 use Rattle.scans.specs.LineMarks.{MarkedBy, MarksMore, ReadTo, Reached, StageInside}
 use Rattle.scans.specs.Scans.{any_return}
-use Rattle.scans.specs.Steps.{AtStage, Names, Stands, Took, return_said, tells_from}
-use Rattle.scans.specs.Texts.{Said, origin, hit, far, end, Progress, nothing, since, Return, advanced, line_fault, outside, read_text, return_fault}
+use Rattle.scans.specs.Steps.{AtStage, Stands, Took, return_said, tells_from}
+use Rattle.scans.specs.Texts.{Progress, nothing, since, Return, advanced, line_fault, outside, read_text, return_fault}
 use Rattle.scans.specs.declared.reader.Reader.{Reader}
 use Rattle.scans.specs.declared.reader.Stage.{Stage}
 use Rattle.scans.specs.declared.reader.Stage.TheVariants.{Start, Since}

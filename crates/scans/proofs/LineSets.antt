@@ -1,16 +1,13 @@
 -- What only asks whether some line has a property does not see their order.
-use Rattle.std.proofs.Common.{◌≡◌, ℕ, Bool, true, false, cond, ◌||◌, ◌⊎◌, List, [], ◌∷◌, Some, None, Option, sym, refl, ap, ◌∙◌, ap₂, inl, inr, ⊎_elim}
+use Rattle.std.proofs.Common.{◌≡◌, ℕ, Bool, true, cond, List, [], ◌∷◌, Some, None, sym, refl, ap, ◌∙◌, ap₂, inl, inr, ⊎_elim}
 use mathlib.Core.Path.{fun_ext}
-use Rattle.std.proofs.lemmas.Bool.{cases_Bool, or_cases, or_left, or_right, true≢false, false≢true}
+use Rattle.std.proofs.lemmas.Bool.{cases_Bool, or_cases, or_left, or_right, false≢true}
 use Rattle.voxels.specs.Space.{voxel_at, voxel_count}
 use Rattle.voxels.specs.declared.cells.Cell.{Cell}
-use Rattle.voxels.specs.declared.cells.Event.{Event}
 use Rattle.voxels.specs.declared.cells.Event.TheVariants.{Hit, Miss}
-use Rattle.voxels.specs.declared.space.Position.{Position}
-use Rattle.voxels.specs.declared.space.Voxel.{Voxel}
 use Rattle.tracing.specs.Lines.{passes}
 use Rattle.scans.specs.Alike.{Among, EachAmong, OrderFree, SameLines}
-use Rattle.scans.specs.Scans.{any_return, ends_in, is_hit_by, is_passed_by, scan_events, seen_by}
+use Rattle.scans.specs.Scans.{any_return, ends_in, scan_events, seen_by}
 use Rattle.scans.specs.Sweeps.{sweep_answer, swept}
 use Rattle.scans.specs.Texts.{Return, ScanText}
 

@@ -2,7 +2,7 @@
 use Rattle.std.proofs.Common.{◌≡◌, ℕ, ◌+◌, Bool, true, false, List, [], ◌∷◌, length, drop, Some, None, Option, sym, refl, ap, ◌∙◌, arith}
 use Rattle.voxels.specs.Refusals.{Told, taken, refused}
 use Rattle.voxels.specs.declared.space.Position.{Position}
-use Rattle.scans.specs.Texts.{Said, origin, hit, far, end, Return, Progress, nothing, since, ScanText, said, line_fault, ended, advanced, read_from, lines_of}
+use Rattle.scans.specs.Texts.{Said, origin, end, Return, Progress, nothing, since, ScanText, said, line_fault, ended, advanced, read_from, lines_of}
 use Rattle.scans.specs.Steps.{Names, GoesOn, tells_from, fault, return_said}
 use Rattle.scans.specs.declared.reader.Reader.{Reader}
 use Rattle.scans.specs.declared.reader.Step.{Step}

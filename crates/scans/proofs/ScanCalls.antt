@@ -1,18 +1,16 @@
 -- The scan call: its page, and its answer from those of its parts.
-use Rattle.std.proofs.Common.{◌≡◌, ℕ, suc, ◌+◌, ◌-◌, ◌<◌, ◌≤◌, Bool, false, cond, not, ◌&&◌, eqb, ltb, leb, List, ◌++◌, length, get_or, drop, replicate, is_some, Option, sym, refl, ap, ◌∙◌, ap₂, ⊎_elim, arith}
+use Rattle.std.proofs.Common.{◌≡◌, ℕ, suc, ◌+◌, ◌-◌, ◌<◌, ◌≤◌, Bool, false, cond, not, ◌&&◌, eqb, ltb, leb, List, ◌++◌, length, get_or, drop, replicate, is_some, Option, sym, ap, ◌∙◌, ap₂, ⊎_elim, arith}
 use Rattle.std.proofs.lemmas.List.{ext_get_or, get_or_append_left, get_or-append_right, get_or-drop, get_or-replicate, length-drop, length-replicate}
 use Rattle.std.proofs.lemmas.Bool.{and_left, and_right, cases_lt, cond-false, cond-true, eq-eqb, le-leb, le-ltb, lt-leb, lt-ltb, ne_eqb}
-use Rattle.voxels.specs.Bounded.{count, first}
-use Rattle.voxels.specs.Cubes.{blocks_needed}
 use Rattle.voxels.specs.Pages.{guarded, wiped}
-use Rattle.voxels.specs.Refusals.{Told, taken, refused}
+use Rattle.voxels.specs.Refusals.{refused}
 use Rattle.voxels.specs.Space.{voxel_count}
 use Rattle.voxels.specs.declared.cells.Cell.{Cell}
 use Rattle.voxels.specs.declared.cells.Event.{Event}
 use Rattle.voxels.proofs.Bounds.{count_same, first_same}
 use Rattle.stores.specs.Sets.{is_open}
-use Rattle.scans.specs.LineMarks.{MarkedBy, mark_by}
-use Rattle.scans.specs.Scans.{Answer, scan_answer, scan_events, text_answer}
+use Rattle.scans.specs.LineMarks.{MarkedBy}
+use Rattle.scans.specs.Scans.{scan_answer, scan_events, text_answer}
 use Rattle.scans.specs.Sweeps.{Figures, is_set, is_skipped, mark_event, passes_limit, past_or, seen, sweep_answer, swept}
 use Rattle.scans.specs.Texts.{ScanText, read_text, since}
 use Rattle.scans.specs.Visits.{page_events}

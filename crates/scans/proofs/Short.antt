@@ -1,5 +1,5 @@
 -- A line that has the form is short: a letter, and three numbers of up to four digits each after a space.
-use Rattle.std.proofs.Common.{◌≡◌, ℕ, ◌+◌, ◌≤◌, Bool, true, false, cond, not, ◌&&◌, ◌||◌, eqb, leb, List, [], ◌∷◌, ◌++◌, length, Some, None, Option, sym, refl, ap, ◌∙◌, ⊎_elim, arith, length-append}
+use Rattle.std.proofs.Common.{◌≡◌, ℕ, ◌+◌, ◌≤◌, Bool, true, false, not, ◌&&◌, ◌||◌, eqb, leb, List, [], ◌∷◌, ◌++◌, length, Some, None, Option, sym, refl, ◌∙◌, ⊎_elim, arith, length-append}
 use Rattle.std.proofs.lemmas.Bool.{and_parts, cases_Bool, cond_both, cond-false, eqb-true, leb-true}
 use Rattle.voxels.specs.declared.space.Position.{Position}
 use Rattle.scans.specs.Texts.{Said, origin, hit, far, end, all_digits, is_number, pieces_from, position_of, said, with_numbers}

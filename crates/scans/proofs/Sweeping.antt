@@ -1,9 +1,9 @@
 -- The cells of a sweep from voxel to voxel, forth and back.
-use Rattle.std.proofs.Common.{◌≡◌, ℕ, suc, ◌+◌, ◌-◌, ◌<◌, ◌≤◌, Bool, true, false, cond, not, ◌&&◌, eqb, ltb, ◌≢◌, List, length, get_or, set, is_some, Some, None, Ok, Err, Option, sym, refl, ap, ◌∙◌, subst, ap₂, ⊎_elim, add-one, arith, below_more}
+use Rattle.std.proofs.Common.{◌≡◌, ℕ, suc, ◌+◌, ◌-◌, ◌<◌, ◌≤◌, Bool, true, false, cond, not, ◌&&◌, eqb, ltb, ◌≢◌, List, length, get_or, set, is_some, Ok, Err, Option, sym, refl, ap, ◌∙◌, subst, ap₂, ⊎_elim, add-one, arith, below_more}
 use mathlib.Core.Path.{fun_ext}
 use Rattle.std.proofs.lemmas.List.{get_or-set_same, get_or-set_other}
 use Rattle.std.proofs.lemmas.Bool.{and_from, and_left, and_parts, and_right, cases_Bool, cases_eq, cases_lt, cond-true, cond-false, eq-eqb, ne_eqb, lt-ltb, le-ltb, not_from_true, not_from_false}
-use Rattle.voxels.specs.Bounded.{count, first, sum}
+use Rattle.voxels.specs.Bounded.{count, sum}
 use Rattle.voxels.specs.Cells.{cell_word, in_range, put, word_cell}
 use Rattle.voxels.specs.Cubes.{blocks_needed}
 use Rattle.voxels.specs.Refusals.{Told, taken, refused, number_of}
@@ -19,7 +19,7 @@ use Rattle.scans.specs.Visits.{Midway, Sweeping, VisitDone, page_events, set_by,
 use Rattle.scans.specs.declared.sweep.Tally.{Tally}
 use Rattle.scans.specs.declared.sweep.Visit.{Visit}
 use Rattle.scans.specs.declared.sweep.Visit.TheVariants.{Nothing, Skipped, Set}
-use Rattle.scans.specs.Sweeps.{Figures, is_set, is_skipped, passes_limit, past_or, seen, sweep_answer, swept}
+use Rattle.scans.specs.Sweeps.{is_set, is_skipped, passes_limit, past_or, seen, sweep_answer, swept}
 
 module _ (depth : ℕ) (closed : ℕ → Bool) (limit : ℕ) (events : ℕ → Option Event) (cells : ℕ → Cell) where
   abbrev cells_at : ℕ → ℕ → Cell

@@ -1,5 +1,5 @@
 -- What the scan call tells, by numbers.
-use Rattle.std.specs.Prelude.{ℕ, Ok, Err, Result}
+use Rattle.std.specs.Prelude.{Ok, Err, Result}
 use Rattle.voxels.specs.Refusals.{Told, taken, refused, number_of}
 use Rattle.voxels.specs.declared.refusals.Refusal.{Refusal}
 use Rattle.scans.specs.Scans.{Answer}

@@ -1,5 +1,5 @@
 -- What a scan does, said of the set of its lines.
-use Rattle.std.specs.Prelude.{ℕ, Bool, true, false, cond, ◌&&◌, ◌||◌, List, [], ◌∷◌, Some, None, Option, ◌==◌, nat_lt}
+use Rattle.std.specs.Prelude.{ℕ, Bool, false, cond, ◌&&◌, ◌||◌, List, [], ◌∷◌, Some, None, Option, ◌==◌, nat_lt}
 use Rattle.voxels.specs.Refusals.{Told, taken, refused}
 use Rattle.voxels.specs.Space.{voxel_at, voxel_count, voxel_of}
 use Rattle.voxels.specs.declared.cells.Cell.{Cell}

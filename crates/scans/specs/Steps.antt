@@ -1,5 +1,5 @@
 -- A reader at its place in a text, and what one step of it does.
-use Rattle.std.specs.Prelude.{◌≡◌, ℕ, ◌+◌, ◌<◌, ◌≤◌, Bool, true, false, cond, List, [], ◌∷◌, length, drop, Some, None, Ok, Err, Option, Result}
+use Rattle.std.specs.Prelude.{◌≡◌, ℕ, ◌+◌, ◌<◌, ◌≤◌, Bool, false, cond, List, length, drop, Some, None, Ok, Err, Option, Result}
 use Rattle.voxels.specs.Refusals.{Told, taken, refused, number_of}
 use Rattle.voxels.specs.declared.refusals.Reason.{Reason}
 use Rattle.voxels.specs.declared.refusals.Reason.TheVariants.{MalformedLine, MisplacedLine, TickOutside}

@@ -1,5 +1,5 @@
 -- The text of a scan: which bytes are lines, what a line says, and what a whole text tells.
-use Rattle.std.specs.Prelude.{ℕ, zero, suc, ◌+◌, ◌-◌, ◌*◌, Bool, true, false, cond, not, ◌&&◌, ◌||◌, List, [], ◌∷◌, ◌++◌, length, Some, None, fold, Option, ◌==◌, nat_le, nat_lt}
+use Rattle.std.specs.Prelude.{ℕ, ◌+◌, ◌-◌, ◌*◌, Bool, true, false, cond, not, ◌&&◌, ◌||◌, List, [], ◌∷◌, ◌++◌, length, Some, None, fold, Option, ◌==◌, nat_le, nat_lt}
 use Rattle.voxels.specs.Refusals.{Told, taken, refused}
 use Rattle.voxels.specs.Space.{side}
 use Rattle.voxels.specs.declared.space.Position.{Position}

@@ -1,5 +1,5 @@
 -- One voxel's part of a sweep.
-use Rattle.std.specs.Prelude.{◌≡◌, ℕ, ◌+◌, ◌<◌, ◌≤◌, Bool, true, false, cond, List, is_some, Some, None, Ok, Err, Option, Result, slice_index}
+use Rattle.std.specs.Prelude.{◌≡◌, ℕ, ◌+◌, ◌<◌, ◌≤◌, Bool, true, false, cond, List, is_some, None, Ok, Err, Option, Result, slice_index}
 use Rattle.voxels.specs.Bounded.{count}
 use Rattle.voxels.specs.Cells.{cell_word, in_range, put}
 use Rattle.voxels.specs.Cubes.{blocks_needed}

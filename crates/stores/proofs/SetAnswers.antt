@@ -3,7 +3,7 @@ use Rattle.std.proofs.Common.{◌≡◌, ℕ, ◌<◌, ◌≤◌, Bool, true, fa
 use Rattle.std.proofs.lemmas.Bool.{cond-true, cond-false, not_from_true, not_from_false, lt-ltb, le-ltb, and_right, or_right, cases_lt}
 use Rattle.voxels.specs.Cells.{in_range, put}
 use Rattle.voxels.specs.Cubes.{blocks_needed}
-use Rattle.voxels.specs.Refusals.{Told, taken, refused}
+use Rattle.voxels.specs.Refusals.{taken, refused}
 use Rattle.voxels.specs.Space.{voxel_count}
 use Rattle.voxels.specs.declared.cells.Cell.{Cell}
 use Rattle.stores.specs.Sets.{is_open, set_answer}

@@ -1,6 +1,6 @@
 -- The word of one voxel, marked.
 use Rattle.std.proofs.Common.{◌≡◌, ℕ, ◌<◌, ◌≤◌, true, false, cond, ◌&&◌, eqb, ltb, leb, ◌⊎◌, List, length, get_or, set, Some, None, sym, ap, ◌∙◌, inl, inr, ⊎_elim, arith}
-use Rattle.std.proofs.lemmas.Bool.{cases_eq, cases_Bool, ltb-true, and_parts, and_from, eq-eqb, ne_eqb, cond-true, cond-false, lt-ltb, le-leb, lt-leb, and_right}
+use Rattle.std.proofs.lemmas.Bool.{cases_eq, cases_Bool, ltb-true, and_parts, and_from, eq-eqb, ne_eqb, cond-true, cond-false, lt-ltb, le-leb, and_right}
 use Rattle.std.proofs.lemmas.List.{get_or-set_same, get_or-set_other}
 use Rattle.voxels.specs.Space.{voxel_at, voxel_in, index_in, voxel_count}
 use Rattle.voxels.specs.declared.space.Voxel.{Voxel}

@@ -1,5 +1,5 @@
 -- The index and the coordinates, digit by digit from the lowest, and that they undo one another.
-use Rattle.std.proofs.Common.{◌≡◌, ℕ, zero, suc, ◌+◌, ◌*◌, ◌/◌, ◌%◌, ◌^◌, ◌<◌, ◌≤◌, Bool, true, false, ltb, leb, Some, None, Option, sym, refl, ap, ◌∙◌, mul_assoc, mul-le-mul_left, pow-suc, add-one, arith, lit<, pow_pos}
+use Rattle.std.proofs.Common.{◌≡◌, ℕ, zero, suc, ◌+◌, ◌*◌, ◌/◌, ◌%◌, ◌^◌, ◌<◌, ◌≤◌, Bool, true, false, ltb, leb, Some, None, sym, refl, ap, ◌∙◌, mul_assoc, mul-le-mul_left, pow-suc, add-one, arith, lit<, pow_pos}
 use native.Mathlib.Nat.{pow-succ', div-div-eq-div-mul, pow-le-pow_right}
 use Rattle.std.proofs.lemmas.Bool.{and_parts, and_from, leb-true, lt-ltb, cond-true, cond-false}
 use Rattle.voxels.specs.Bounded.{sum}

@@ -1,6 +1,6 @@
 -- A lent work page, of which a call uses a word for each voxel.
 use Rattle.std.specs.Prelude.{ℕ, cond, List, ◌++◌, length, drop, replicate, ◌==◌, nat_le, nat_lt}
-use Rattle.voxels.specs.Refusals.{Told, taken, refused}
+use Rattle.voxels.specs.Refusals.{Told, refused}
 use Rattle.voxels.specs.Space.{voxel_count}
 
 -- the words that a guard wipes: one a voxel, or none where the page is too short

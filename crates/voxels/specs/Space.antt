@@ -1,5 +1,5 @@
 -- A map of depth 1 to 5 is a cube of voxels with 2 ^ depth along each axis; a depth outside that has no voxel.
-use Rattle.std.specs.Prelude.{ℕ, zero, suc, ◌+◌, ◌*◌, ◌/◌, ◌%◌, ◌^◌, Bool, cond, ◌&&◌, Some, None, Option, nat_le, nat_lt}
+use Rattle.std.specs.Prelude.{ℕ, ◌+◌, ◌*◌, ◌/◌, ◌%◌, ◌^◌, Bool, cond, ◌&&◌, Some, None, Option, nat_le, nat_lt}
 use Rattle.voxels.specs.Bounded.{sum}
 use Rattle.voxels.specs.declared.space.Position.{Position}
 use Rattle.voxels.specs.declared.space.Voxel.{Voxel}

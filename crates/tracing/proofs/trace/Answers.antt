@@ -2,7 +2,6 @@ use Rattle.std.proofs.Common.{◌≡◌, ℕ, ◌+◌, ◌<◌, true, false, sym
 use Rattle.std.proofs.lemmas.Bool.{both_ways}
 use Rattle.voxels.specs.declared.space.Position.{Position}
 use Rattle.tracing.specs.declared.walks.Walk.{Walk}
-use Rattle.tracing.specs.Lines.{crossings}
 use Rattle.tracing.specs.Marks.{traceable}
 use Rattle.tracing.specs.Walks.{walk_at}
 use Rattle.tracing.proofs.Passed.{page_holds, passes_inside, end_not_passed}

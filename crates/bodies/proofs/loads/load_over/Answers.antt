@@ -1,4 +1,4 @@
-use Rattle.std.proofs.Common.{◌≡◌, ℕ, length, sym, refl, ap, ◌∙◌, arith}
+use Rattle.std.proofs.Common.{◌≡◌, ℕ, sym, refl, ap, ◌∙◌, arith}
 use Rattle.voxels.proofs.Blocks.{map_depth}
 use Rattle.voxels.specs.declared.cells.Cell.TheVariants.{Unknown}
 use Rattle.bodies.specs.Loads.{load_cells, states_answer, told_load}

@@ -1,4 +1,4 @@
-use Rattle.std.proofs.Common.{◌≡◌, length, sym, refl, ap, ◌∙◌}
+use Rattle.std.proofs.Common.{length, sym, refl, ap, ◌∙◌}
 use Rattle.voxels.specs.Pages.{over_page}
 use Rattle.voxels.specs.Refusals.{number_of, taken}
 use Rattle.voxels.proofs.WorkPages.{guard_left, over_enough, page_refused, page_taken}

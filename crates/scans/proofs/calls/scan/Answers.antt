@@ -1,4 +1,4 @@
-use Rattle.std.proofs.Common.{◌≡◌, ℕ, ◌<◌, ◌≤◌, length, sym, refl, ap, ◌∙◌, arith}
+use Rattle.std.proofs.Common.{◌≡◌, ◌<◌, ◌≤◌, length, sym, refl, ap, ◌∙◌, arith}
 use Rattle.voxels.specs.Pages.{guarded, wiped}
 use Rattle.voxels.specs.Space.{voxel_count}
 use Rattle.scans.proofs.LineSets.{order_free}

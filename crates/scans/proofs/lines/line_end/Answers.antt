@@ -1,4 +1,4 @@
-use Rattle.std.proofs.Common.{◌≡◌, take, drop, sym, ap, ◌∙◌, arith}
+use Rattle.std.proofs.Common.{drop, sym, ap, ◌∙◌}
 use Rattle.scans.specs.Texts.{lines_from}
 use Rattle.scans.proofs.Pieces.{lines_on, lines_here, lines_end, part_none}
 use Rattle.scans.proofs.lines.line_end.Goals as goal

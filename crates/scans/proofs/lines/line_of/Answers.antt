@@ -1,4 +1,4 @@
-use Rattle.std.proofs.Common.{◌≡◌, ◌∷◌, sym, ◌∙◌, arith}
+use Rattle.std.proofs.Common.{sym, arith}
 use Rattle.scans.proofs.Letters.{said_empty, said_origin, said_hit, said_far, said_end, said_end_not, said_other}
 use Rattle.scans.proofs.lines.line_of.Goals as goal
 

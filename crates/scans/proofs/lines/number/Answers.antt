@@ -1,10 +1,9 @@
-use Rattle.std.proofs.Common.{◌≡◌, ℕ, ◌+◌, ◌-◌, ◌*◌, ◌^◌, ◌<◌, ◌≤◌, true, false, cond, leb, length, get_or, Some, None, fold, sym, refl, ap, ◌∙◌, arith, lit<}
+use Rattle.std.proofs.Common.{◌≡◌, ℕ, ◌+◌, ◌-◌, ◌*◌, ◌^◌, ◌<◌, ◌≤◌, true, false, leb, get_or, Some, None, fold, sym, ap, ◌∙◌, arith, lit<}
 use native.Mathlib.Nat.{pow-le-pow_right}
 use Rattle.std.proofs.lemmas.List.{drop_all}
 use Rattle.std.proofs.lemmas.Bool.{le-leb, lt-leb, and_from, and_left, and_right, cond-true, cond-false}
 use Rattle.voxels.proofs.Indices.{pow_more}
 use Rattle.scans.specs.Texts.{all_digits, is_number, is_digit, decimal}
-use Rattle.scans.specs.Lines.{number_in}
 use Rattle.scans.proofs.Numbers.{is_number_lem, digits_on, digits_not, decimal_on}
 use Rattle.scans.proofs.lines.number.Goals as goal
 use Rattle.scans.proofs.lines.number.Goals.{Joined-else-count-gt1, else-count-gt1-via-then-count-gt1+else-digits-eq48, else-count-gt1-via-else-count-gt1, then-digit-lt48-via-then-digit-lt48, then-digit-lt48-via-else-digit-lt48+then-digit-gt57}

@@ -1,4 +1,4 @@
-use Rattle.std.proofs.Common.{◌≡◌, [], ◌∷◌, take, drop, sym, ap, ◌∙◌, arith}
+use Rattle.std.proofs.Common.{[], ◌∷◌, drop, sym, ap, ◌∙◌}
 use Rattle.scans.specs.Texts.{pieces_from}
 use Rattle.scans.proofs.Pieces.{pieces_on, pieces_here, pieces_end, part_none, part_rest}
 use Rattle.scans.proofs.lines.space.Goals as goal

@@ -1,4 +1,4 @@
-use Rattle.std.proofs.Common.{◌≡◌, ◌≤◌, cond, ◌&&◌, length, get_or, sym, ap, ◌∙◌, arith}
+use Rattle.std.proofs.Common.{◌≤◌, cond, ◌&&◌, length, get_or, sym, ap, ◌∙◌, arith}
 use Rattle.tracing.specs.Lines.{same_voxel}
 use Rattle.voxels.specs.Space.{voxel_at, voxel_count, voxel_of}
 use Rattle.scans.proofs.LineMarking.{can_trace, ended_inside, ended_rest, line_marked, traced_rest}

@@ -1,15 +1,12 @@
-use Rattle.std.proofs.Common.{◌≡◌, ℕ, suc, ◌+◌, ◌<◌, Bool, false, List, length, get_or, set, Ok, Err, Option, Result, sym, refl, ap, ◌∙◌, subst, arith}
+use Rattle.std.proofs.Common.{◌≡◌, ℕ, suc, ◌+◌, ◌<◌, Bool, false, length, get_or, set, Ok, Err, sym, refl, ap, ◌∙◌, subst, arith}
 use mathlib.Core.Path.{subst₃}
 use Rattle.voxels.specs.Bounded.{count}
 use Rattle.voxels.specs.Refusals.{Told, taken}
 use Rattle.voxels.specs.Space.{voxel_count}
-use Rattle.voxels.specs.declared.cells.Event.{Event}
-use Rattle.voxels.specs.declared.refusals.Refusal.{Refusal}
 use Rattle.voxels.proofs.Blocks.{count_small}
 use Rattle.voxels.proofs.Bounds.{count_le}
 use Rattle.scans.specs.Sweeps.{Figures, is_set, is_skipped, mark_event, passes_limit, swept}
 use Rattle.scans.specs.Visits.{Midway, Sweeping, VisitDone, page_events}
-use Rattle.scans.specs.declared.sweep.Visit.{Visit}
 use Rattle.scans.proofs.Sweeping.{sweep_starts, sweep_taken, turn_forth, turn_refused, within_limit}
 use Rattle.scans.proofs.sweep.sweep_marks.Goals as goal
 

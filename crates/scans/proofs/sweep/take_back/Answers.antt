@@ -1,4 +1,4 @@
-use Rattle.std.proofs.Common.{ℕ, ◌-◌, Bool, ◌∙◌, arith}
+use Rattle.std.proofs.Common.{ℕ, ◌-◌, Bool, ◌∙◌}
 use mathlib.Core.Path.{subst₃}
 use Rattle.voxels.specs.Refusals.{told}
 use Rattle.stores.specs.Sets.{SetDone}

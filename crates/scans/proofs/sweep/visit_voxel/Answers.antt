@@ -1,4 +1,4 @@
-use Rattle.std.proofs.Common.{sym, ◌∙◌}
+use Rattle.std.proofs.Common.{sym}
 use Rattle.scans.specs.Sweeps.{mark_event}
 use Rattle.scans.proofs.Visiting.{visited_set, visited_past}
 use Rattle.scans.proofs.sweep.visit_voxel.Goals as goal

@@ -1,4 +1,4 @@
-use Rattle.std.proofs.Common.{sym, ◌∙◌, arith}
+use Rattle.std.proofs.Common.{sym, arith}
 use Rattle.voxels.specs.Refusals.{taken}
 use Rattle.voxels.proofs.WorkPages.{over_enough, over_no_map, over_short}
 use Rattle.voxels.proofs.pages.check_page.Goals as goal

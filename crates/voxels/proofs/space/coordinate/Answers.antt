@@ -1,4 +1,4 @@
-use Rattle.std.proofs.Common.{◌≡◌, ◌+◌, ◌*◌, ◌/◌, ◌%◌, ◌^◌, ◌≤◌, sym, refl, ap, ◌∙◌, mul-le-mul_left, arith, lit<}
+use Rattle.std.proofs.Common.{◌*◌, ◌%◌, ◌≤◌, refl, mul-le-mul_left, arith, lit<}
 use Rattle.voxels.specs.Bounded.{sum}
 use Rattle.voxels.specs.Space.{bit}
 use Rattle.voxels.proofs.Indices.{pow_small, pow_more, quotient_more, coordinate_more, coordinate_below}

@@ -1,9 +1,8 @@
-use Rattle.std.proofs.Common.{◌≡◌, ℕ, ◌*◌, ◌^◌, ◌<◌, ◌≤◌, Bool, true, false, not, ◌&&◌, ltb, leb, Some, Ok, Err, sym, refl, ap, ◌∙◌, ⊎_elim, arith, lit<}
+use Rattle.std.proofs.Common.{◌≡◌, ℕ, ◌*◌, ◌^◌, ◌≤◌, Bool, true, false, ◌&&◌, ltb, leb, Ok, Err, sym, refl, ap, ◌∙◌, arith, lit<}
 use native.Mathlib.Nat.{pow-le-pow_right}
 use Rattle.std.proofs.lemmas.Bool.{le-ltb, and_left, and_right, and_parts, leb-true, cond-true, cond-false, not_from_false}
 use Rattle.voxels.specs.Space.{is_depth, side}
 use Rattle.voxels.specs.declared.refusals.Reason.TheVariants.{TickOutside}
-use Rattle.voxels.specs.declared.space.Position.{Position}
 use Rattle.scans.specs.Texts.{outside}
 use Rattle.scans.specs.Steps.{placed}
 use Rattle.scans.proofs.reader.Reader.inside.Goals as goal

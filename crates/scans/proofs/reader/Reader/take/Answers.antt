@@ -1,10 +1,10 @@
-use Rattle.std.proofs.Common.{◌≡◌, ℕ, [], Some, None, Err, sym, refl, ap, ◌∙◌, subst}
+use Rattle.std.proofs.Common.{◌≡◌, Some, None, Err, sym, refl, ap, ◌∙◌, subst}
 use Rattle.std.proofs.lemmas.Result.{err_from_is_err_and}
 use Rattle.std.proofs.lemmas.Bool.{cond-true}
 use Rattle.voxels.specs.Refusals.{number_of}
 use Rattle.scans.specs.Lines.{said_by}
-use Rattle.scans.specs.Steps.{Judged, fault, return_said}
-use Rattle.scans.specs.Texts.{Progress, nothing, origin, hit, far, line_fault, outside, with_numbers}
+use Rattle.scans.specs.Steps.{Judged, fault}
+use Rattle.scans.specs.Texts.{nothing, origin, hit, far, line_fault, outside}
 use Rattle.scans.proofs.Judging.{at_stage, no_place, wrong_place, origin_taken}
 use Rattle.scans.proofs.reader.Reader.take.Goals as goal
 

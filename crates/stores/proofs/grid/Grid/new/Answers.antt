@@ -1,6 +1,5 @@
 use Rattle.std.proofs.Common.{◌≡◌, length, ap, ◌∙◌}
 use Rattle.stores.specs.Grids.{grid_cell, grid_depth}
-use Rattle.voxels.specs.declared.cells.Cell.TheVariants.{Unknown}
 use Rattle.stores.proofs.GridCells.{made_empty}
 use Rattle.stores.proofs.grid.Grid.new.Goals as goal
 

@@ -1,4 +1,4 @@
-use Rattle.std.proofs.Common.{◌≡◌, ℕ, Bool, true, false, get_or, sym, ◌∙◌, arith}
+use Rattle.std.proofs.Common.{ℕ, Bool, get_or, sym, ◌∙◌, arith}
 use Rattle.voxels.proofs.Bounds.{some_has, some_none}
 use Rattle.stores.specs.Masks.{in_run, no_run}
 use Rattle.stores.proofs.mask.Mask.closes.Goals as goal

@@ -1,6 +1,6 @@
-use Rattle.std.proofs.Common.{◌≡◌, ℕ, Bool, get_or, sym, ap, ◌∙◌}
+use Rattle.std.proofs.Common.{sym, ap}
 use Rattle.voxels.proofs.Bounds.{some_same}
-use Rattle.stores.specs.Masks.{in_run, no_run, pair_count, pair_run}
+use Rattle.stores.specs.Masks.{in_run, pair_count}
 use Rattle.stores.proofs.mask.Mask.fill.Goals as goal
 
 pub returns : goal.returns

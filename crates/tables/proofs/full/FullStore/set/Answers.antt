@@ -1,8 +1,7 @@
-use Rattle.std.proofs.Common.{◌≡◌, ℕ, ◌<◌, ◌≤◌, Bool, true, false, sym, refl, ap, ◌∙◌, arith}
+use Rattle.std.proofs.Common.{◌≡◌, ℕ, ◌<◌, ◌≤◌, Bool, false, sym, refl, ap, ◌∙◌, arith}
 use mathlib.Core.Path.{fun_ext}
-use Rattle.voxels.specs.Cells.{in_range, put}
+use Rattle.voxels.specs.Cells.{put}
 use Rattle.voxels.specs.Cubes.{blocks_needed}
-use Rattle.voxels.specs.declared.cells.Cell.TheVariants.{Known, Unknown}
 use Rattle.stores.proofs.GridCells.{grid_not_open, grid_open}
 use Rattle.stores.proofs.SetAnswers.{answer_not_open, answer_out_of_range, answer_past_limit, answer_taken}
 use Rattle.tables.specs.FullLaws.{nothing, nothing_needed}

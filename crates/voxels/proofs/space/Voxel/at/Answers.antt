@@ -1,6 +1,4 @@
-use Rattle.std.proofs.Common.{◌≡◌, sym, ap, ◌∙◌, subst, arith}
-use Rattle.voxels.specs.Space.{voxel_at, index_in}
-use Rattle.voxels.specs.declared.space.Voxel.{Voxel}
+use Rattle.std.proofs.Common.{arith}
 use Rattle.voxels.proofs.Indices.{voxel_back}
 use Rattle.voxels.proofs.space.Voxel.at.Goals as goal
 

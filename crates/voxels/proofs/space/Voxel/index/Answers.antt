@@ -1,7 +1,7 @@
-use Rattle.std.proofs.Common.{◌≡◌, ◌+◌, ◌*◌, ◌^◌, ◌<◌, ◌≤◌, sym, refl, ap, ◌∙◌, subst, arith, lit<}
+use Rattle.std.proofs.Common.{◌≡◌, ◌*◌, ◌^◌, ◌<◌, ◌≤◌, refl, arith, lit<}
 use Rattle.std.proofs.lemmas.Nat.{mul-le}
 use Rattle.voxels.specs.Bounded.{sum}
-use Rattle.voxels.specs.Space.{octant, side}
+use Rattle.voxels.specs.Space.{side}
 use Rattle.voxels.proofs.Indices.{pow_small, pow_more, index_more, index_below, octant_le, side_above, index_back}
 use Rattle.voxels.proofs.space.Voxel.index.Goals as goal
 

@@ -1,4 +1,4 @@
-use Rattle.std.proofs.Common.{◌≡◌, ◌*◌, ◌^◌, ◌≤◌}
+use Rattle.std.proofs.Common.{◌≡◌, ◌^◌, ◌≤◌}
 use Rattle.voxels.specs.Space.{index_of}
 use Rattle.voxels.proofs.space.Voxel.index.Given as goal
 
