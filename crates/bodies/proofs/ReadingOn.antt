@@ -57,14 +57,14 @@ child_near : (level code at : ℕ) (bytes : List ℕ) (states : List State) (nex
 child_near level code at bytes states next rest e = subst (Within (8 ^ level) (at + 8 ^ level)) e (child_within (read_pair level false) (8 ^ level) (eight_pos level) (pair_within level false) code at bytes)
 
 -- the next child is read by a cube and a code that are those of child n
-module _ (level : ℕ) (code : ℕ → ℕ) (at : ℕ) (bytes before now after : List ℕ) (first n left_at : ℕ) (left : List ℕ) (so_far : Reached (read_pair level false) (8 ^ level) code at bytes before now first n left_at left) (r : Result Rest Refusal) (childLevel childAt : ℕ) (childCode' : Code) (levels : childLevel ≡ level) (places : childAt ≡ child_first level first n) (codes : childCode' ≡ code_of (code n)) where
+module _ (level : ℕ) (code : ℕ → ℕ) (at : ℕ) (bytes before now after : List ℕ) (first n left_at : ℕ) (left : List ℕ) (so_far : Reached (read_pair level false) (8 ^ level) code at bytes before now first n left_at left) (r : Result Rest Refusal) (child_level child_at : ℕ) (its_code : Code) (levels : child_level ≡ level) (places : child_at ≡ child_first level first n) (codes : its_code ≡ code_of (code n)) where
   abbrev size : ℕ
   size = 8 ^ level
 
-  as_child : ReadTo (read_code (read_pair childLevel false) (8 ^ childLevel) childCode' left_at left) now after childLevel childAt r → ReadTo (read_child (read_pair level false) size (code n) left_at left) now after level (child_first level first n) r
+  as_child : ReadTo (read_code (read_pair child_level false) (8 ^ child_level) its_code left_at left) now after child_level child_at r → ReadTo (read_child (read_pair level false) size (code n) left_at left) now after level (child_first level first n) r
   as_child done =
-      let P : ℕ → Type 0 = λ l. ReadTo (read_code (read_pair l false) (8 ^ l) childCode' left_at left) now after l childAt r in
-      let Q : ℕ → Type 0 = λ f. ReadTo (read_code (read_pair level false) size childCode' left_at left) now after level f r in
+      let P : ℕ → Type 0 = λ l. ReadTo (read_code (read_pair l false) (8 ^ l) its_code left_at left) now after l child_at r in
+      let Q : ℕ → Type 0 = λ f. ReadTo (read_code (read_pair level false) size its_code left_at left) now after level f r in
       let R : Code → Type 0 = λ c. ReadTo (read_code (read_pair level false) size c left_at left) now after level (child_first level first n) r in
       let S : Reading → Type 0 = λ x. ReadTo x now after level (child_first level first n) r in
       subst S (code_read (read_pair level false) size (code n) left_at left) (subst R codes (subst Q places (subst P levels done)))
@@ -76,17 +76,17 @@ module _ (level : ℕ) (code : ℕ → ℕ) (at : ℕ) (bytes before now after :
   starts : child_first level first n ≡ first + length so_far.states
   starts = omega (arith, so_far.long)
 
-pub reached_more : (level : ℕ) (code : ℕ → ℕ) (at : ℕ) (bytes before now after : List ℕ) (first n left_at : ℕ) (left : List ℕ) (so_far : Reached (read_pair level false) (8 ^ level) code at bytes before now first n left_at left) (next : Rest) (childLevel childAt : ℕ) (child : Code) → childLevel ≡ level → childAt ≡ child_first level first n → child ≡ code_of (code n) → ReadTo (read_code (read_pair childLevel false) (8 ^ childLevel) child left_at left) now after childLevel childAt (Ok next) → Reached (read_pair level false) (8 ^ level) code at bytes before after first (n + 1) next.at next.bytes.now
-reached_more level code at bytes before now after first n left_at left so_far next childLevel childAt child levels places codes done =
+pub reached_more : (level : ℕ) (code : ℕ → ℕ) (at : ℕ) (bytes before now after : List ℕ) (first n left_at : ℕ) (left : List ℕ) (so_far : Reached (read_pair level false) (8 ^ level) code at bytes before now first n left_at left) (next : Rest) (child_level child_at : ℕ) (child : Code) → child_level ≡ level → child_at ≡ child_first level first n → child ≡ code_of (code n) → ReadTo (read_code (read_pair child_level false) (8 ^ child_level) child left_at left) now after child_level child_at (Ok next) → Reached (read_pair level false) (8 ^ level) code at bytes before after first (n + 1) next.at next.bytes.now
+reached_more level code at bytes before now after first n left_at left so_far next child_level child_at child levels places codes done =
     let size = 8 ^ level in
-    let got = taken_as (read_child (read_pair level false) size (code n) left_at left) now after level (child_first level first n) next (as_child level code at bytes before now after first n left_at left so_far (Ok next) childLevel childAt child levels places codes done) in
+    let got = taken_as (read_child (read_pair level false) size (code n) left_at left) now after level (child_first level first n) next (as_child level code at bytes before now after first n left_at left so_far (Ok next) child_level child_at child levels places codes done) in
     let near = child_near level (code n) left_at left got.0 next.at next.bytes.now got.1 in
     record {
       states = so_far.states ++ got.0;
       reading = ap (λ m. read_children (read_pair level false) size code m at bytes) (add-one n)
-          ∙ step level code at bytes before now after first n left_at left so_far (Ok next) childLevel childAt child levels places codes
+          ∙ step level code at bytes before now after first n left_at left so_far (Ok next) child_level child_at child levels places codes
           ∙ ap (prepend so_far.states) got.1;
-      kept = kept_more before now after first (child_first level first n) so_far.states got.0 (starts level code at bytes before now after first n left_at left so_far (Ok next) childLevel childAt child levels places codes) so_far.kept got.2;
+      kept = kept_more before now after first (child_first level first n) so_far.states got.0 (starts level code at bytes before now after first n left_at left so_far (Ok next) child_level child_at child levels places codes) so_far.kept got.2;
       long = omega (arith, length-append so_far.states got.0, near.0, so_far.long, suc-mul n size, ap (λ m. m * size) (add-one n));
       near = omega (arith, near.1, so_far.near, suc-mul n size, ap (λ m. m * size) (add-one n));
     }
@@ -98,11 +98,11 @@ wrong_on below size code at bytes n number place (suc k) e =
     let more : suc k + n ≡ suc (k + n) = omega arith in
     ap (λ m. read_children below size code m at bytes) more ∙ children_more below size code (k + n) at bytes ∙ ap (λ x. and_then x (read_child below size (code (k + n)))) (wrong_on below size code at bytes n number place k e)
 
-pub reached_wrong : (level : ℕ) (code : ℕ → ℕ) (at : ℕ) (bytes before now after : List ℕ) (first n left_at : ℕ) (left : List ℕ) (so_far : Reached (read_pair level false) (8 ^ level) code at bytes before now first n left_at left) (e : Refusal) (childLevel childAt : ℕ) (child : Code) → n < 8 → childLevel ≡ level → childAt ≡ child_first level first n → child ≡ code_of (code n) → ReadTo (read_code (read_pair childLevel false) (8 ^ childLevel) child left_at left) now after childLevel childAt (Err e) → (read_children (read_pair level false) (8 ^ level) code 8 at bytes ≡ wrong (number_of e.reason) e.place) × Spared before after (first + 8 ^ level * 8)
-reached_wrong level code at bytes before now after first n left_at left so_far e childLevel childAt child few levels places codes done =
+pub reached_wrong : (level : ℕ) (code : ℕ → ℕ) (at : ℕ) (bytes before now after : List ℕ) (first n left_at : ℕ) (left : List ℕ) (so_far : Reached (read_pair level false) (8 ^ level) code at bytes before now first n left_at left) (e : Refusal) (child_level child_at : ℕ) (child : Code) → n < 8 → child_level ≡ level → child_at ≡ child_first level first n → child ≡ code_of (code n) → ReadTo (read_code (read_pair child_level false) (8 ^ child_level) child left_at left) now after child_level child_at (Err e) → (read_children (read_pair level false) (8 ^ level) code 8 at bytes ≡ wrong (number_of e.reason) e.place) × Spared before after (first + 8 ^ level * 8)
+reached_wrong level code at bytes before now after first n left_at left so_far e child_level child_at child few levels places codes done =
     let size = 8 ^ level in
-    let got = refused_as (read_child (read_pair level false) size (code n) left_at left) now after level (child_first level first n) e (as_child level code at bytes before now after first n left_at left so_far (Err e) childLevel childAt child levels places codes done) in
-    let here : read_children (read_pair level false) size code (suc n) at bytes ≡ wrong (number_of e.reason) e.place = step level code at bytes before now after first n left_at left so_far (Err e) childLevel childAt child levels places codes ∙ ap (prepend so_far.states) got.0 in
+    let got = refused_as (read_child (read_pair level false) size (code n) left_at left) now after level (child_first level first n) e (as_child level code at bytes before now after first n left_at left so_far (Err e) child_level child_at child levels places codes done) in
+    let here : read_children (read_pair level false) size code (suc n) at bytes ≡ wrong (number_of e.reason) e.place = step level code at bytes before now after first n left_at left so_far (Err e) child_level child_at child levels places codes ∙ ap (prepend so_far.states) got.0 in
     let eight : 8 ≡ 7 - n + suc n = omega arith in
     let within : suc n * size ≤ 8 * size = mul-le-mul_right size few in
     let ends : first + length so_far.states ≤ first + size * 8 = omega (arith, so_far.long, within, suc-mul n size) in (
