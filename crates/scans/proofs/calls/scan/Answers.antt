@@ -2,7 +2,8 @@ use Rattle.std.proofs.Common.{◌≡◌, ◌<◌, ◌≤◌, length, sym, refl, 
 use Rattle.voxels.specs.Pages.{guarded, wiped}
 use Rattle.voxels.specs.Space.{voxel_count}
 use Rattle.scans.proofs.LineSets.{order_free}
-use Rattle.scans.proofs.ScanCalls.{guarded_none, guarded_short, left_alone, same_wiped, scan_no_map, scan_reads, scan_short}
+use Rattle.voxels.proofs.WorkPages.{guarded_none, guarded_short, left_alone, same_wiped}
+use Rattle.scans.proofs.ScanCalls.{scan_no_map, scan_reads, scan_short}
 use Rattle.scans.proofs.calls.scan.Goals as goal
 
 pub returns-then-depth-eq0 : goal.returns-then-depth-eq0

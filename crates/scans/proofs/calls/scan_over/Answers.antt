@@ -5,7 +5,8 @@ use Rattle.scans.specs.Texts.{ScanText, read_text, since}
 use Rattle.scans.specs.LineMarks.{MarkedBy}
 use Rattle.voxels.specs.Refusals.{taken}
 use Rattle.scans.specs.Visits.{page_events}
-use Rattle.scans.proofs.ScanCalls.{marks_agree, same_sweep, same_swept, wiped_front, wiped_rest}
+use Rattle.voxels.proofs.WorkPages.{wiped_front, wiped_rest}
+use Rattle.scans.proofs.ScanCalls.{marks_agree, same_sweep, same_swept}
 use Rattle.scans.proofs.calls.scan_over.Given.{Over}
 use Rattle.scans.proofs.calls.scan_over.Goals as goal
 use Rattle.scans.proofs.calls.scan_over.Goals.{In-Ok}
