@@ -1,7 +1,8 @@
 -- The index and the coordinates, digit by digit from the lowest, and that they undo one another.
-use Rattle.std.proofs.Common.{◌≡◌, ℕ, zero, suc, ◌+◌, ◌*◌, ◌/◌, ◌%◌, ◌^◌, ◌<◌, ◌≤◌, Bool, true, false, ltb, leb, Some, None, sym, refl, ap, ◌∙◌, mul_assoc, mul-le-mul_left, pow-suc, add-one, arith, lit<, pow_pos}
-use native.Mathlib.Nat.{pow-succ', div-div-eq-div-mul, pow-le-pow_right}
-use Rattle.std.proofs.lemmas.Bool.{and_parts, and_from, leb-true, lt-ltb, cond-true, cond-false}
+use Rattle.std.proofs.Common.{◌≡◌, ℕ, zero, suc, ◌+◌, ◌*◌, ◌/◌, ◌%◌, ◌^◌, ◌<◌, ◌≤◌, Bool, true, false, cond, ltb, leb, Some, None, Option, SomeIff, unwrap_or, ⊎_elim, sym, subst, refl, ap, ◌∙◌, mul_assoc, mul-le-mul_left, pow-add, pow-suc, add-one, arith, lit<, pow_pos}
+use native.Mathlib.Nat.{pow-succ', div-div-eq-div-mul, pow-le-pow_right, div-eq_of_lt}
+use Rattle.std.proofs.lemmas.Nat.{mul-pow}
+use Rattle.std.proofs.lemmas.Bool.{cases_lt, and_parts, and_from, leb-true, lt-ltb, cond-true, cond-false}
 use Rattle.voxels.specs.Bounded.{sum}
 use Rattle.voxels.specs.Space.{is_depth, side, voxel_count, in_map, bit, octant, index_of, index_in, coordinate, voxel_at, voxel_in}
 use Rattle.voxels.specs.declared.space.Voxel.{Voxel}
@@ -108,6 +109,31 @@ pow_more b d = rw add-one (pow-suc b d)
 
 pub quotient_more : (i d : ℕ) → i / 8 ^ (d + 1) ≡ i / 8 ^ d / 8
 quotient_more i d = ap (λ m. i / m) (pow_more 8 d) ∙ sym (div-div-eq-div-mul i (8 ^ d) 8)
+
+eight : (d : ℕ) → 2 ^ d * 2 ^ d * 2 ^ d ≡ 8 ^ d
+eight d = ap (λ m. m * 2 ^ d) (sym (mul-pow 2 2 d)) ∙ sym (mul-pow 4 2 d)
+
+cubed : (b : Bool) (d : ℕ) → cond b (2 ^ d) 0 * cond b (2 ^ d) 0 * cond b (2 ^ d) 0 ≡ cond b (8 ^ d) 0
+cubed true d = eight d
+cubed false d = refl
+
+pub side_cubed : (d : ℕ) → side d * side d * side d ≡ voxel_count d
+side_cubed d = cubed (is_depth d) d
+
+-- three bits for each level
+bits_of : (level : ℕ) → 2 ^ (3 * level) ≡ 8 ^ level
+bits_of level =
+    let thrice : 3 * level ≡ level + level + level = omega arith in
+    ap (λ n. 2 ^ n) thrice ∙ pow-add 2 (level + level) level ∙ ap (λ m. m * 2 ^ level) (pow-add 2 level level) ∙ eight level
+
+-- past the last bit nothing is left
+pub shifted : (i level : ℕ) → i < 2 ^ 64 → (o : Option ℕ) → SomeIff o (3 * level < 64) (i / 2 ^ (3 * level)) → unwrap_or o 0 ≡ i / 8 ^ level
+shifted i level h (Some n) is = is.1 ∙ ap (λ m. i / m) (bits_of level)
+shifted i level h None past =
+    let deep : 64 ≤ 3 * level = ⊎_elim (λ low. absurd (past low)) (λ p. p) (cases_lt (3 * level) 64) in
+    let wide : 2 ^ 64 ≤ 2 ^ (3 * level) = pow-le-pow_right (lit< tt) deep in
+    let small : i < 8 ^ level = subst (λ m. i < m) (bits_of level) (omega (arith, h, wide)) in
+    sym (div-eq_of_lt small)
 
 -- a power at a level of a map
 pub pow_small : (b k : ℕ) → 0 < b → k < 5 → b ^ k ≤ b ^ 4

@@ -4,3 +4,4 @@ pub mod Cells
 pub mod Cubes
 pub mod Refusals
 pub mod Pages
+pub mod Texts

@@ -1,6 +1,8 @@
 -- A map of depth 1 to 5 is a cube of voxels with 2 ^ depth along each axis; a depth outside that has no voxel.
 use Rattle.std.specs.Prelude.{ℕ, ◌+◌, ◌*◌, ◌/◌, ◌%◌, ◌^◌, Bool, cond, ◌&&◌, Some, None, Option, nat_le, nat_lt}
 use Rattle.voxels.specs.Bounded.{sum}
+use Rattle.voxels.specs.declared.space.Axis.{Axis}
+use Rattle.voxels.specs.declared.space.Axis.TheVariants.{X, Y, Z}
 use Rattle.voxels.specs.declared.space.Position.{Position}
 use Rattle.voxels.specs.declared.space.Voxel.{Voxel}
 
@@ -36,6 +38,12 @@ index_of d v = sum d (λ k. 8 ^ k * octant k v)
 
 abbrev pub index_in : ℕ → Voxel → Option ℕ
 index_in d v = cond (in_map d v) (Some (index_of d v)) None
+
+-- the axes in their order
+abbrev pub axis_number : Axis → ℕ
+axis_number X = 0
+axis_number Y = 1
+axis_number Z = 2
 
 -- the coordinate on an axis (0 x, 1 y, 2 z) of the voxel at an index: bit k is that axis's bit of the digit of weight 8 ^ k
 abbrev pub coordinate : ℕ → ℕ → ℕ → ℕ

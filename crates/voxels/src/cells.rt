@@ -1,5 +1,8 @@
-ghost use Rattle.std.specs.Prelude.{◌≡◌, true};
+ghost use Rattle.std.specs.Prelude.{◌≡◌, true, Some};
 ghost use Rattle.voxels.specs.Cells.{cell_word, change, clamped, in_range, log_odds, state_of, updated, word_cell};
+ghost use Rattle.voxels.specs.Texts.{cell_text, event_text};
+
+use std::fmt;
 
 // The log-odds of a voxel in hundredths, once something was seen of it.
 #[derive(Clone, Copy, PartialEq, Eq, Debug)]
@@ -39,7 +42,7 @@ impl Cell {
     {
         match self {
             Cell::Unknown => true,
-            Cell::Known(value) => LOWEST <= value && value <= HIGHEST,
+            Cell::Known(value) => (LOWEST..=HIGHEST).contains(&value),
         }
     }
 
@@ -77,10 +80,9 @@ impl Cell {
         ensures value { result ≡ word_cell word }
         ensures range { in_range result ≡ true }
     {
-        if 1 <= word && word <= 551 {
-            Cell::Known((i32::from(word) - WORD_OFFSET) as i16)
-        } else {
-            Cell::Unknown
+        match word {
+            1..=551 => Cell::Known((i32::from(word) - WORD_OFFSET) as i16),
+            _ => Cell::Unknown,
         }
     }
 
@@ -89,13 +91,8 @@ impl Cell {
     {
         match self {
             Cell::Unknown => State::Unknown,
-            Cell::Known(value) => {
-                if value < 0 {
-                    State::Free
-                } else {
-                    State::Occupied
-                }
-            }
+            Cell::Known(value) if value < 0 => State::Free,
+            Cell::Known(_) => State::Occupied,
         }
     }
 }
@@ -111,15 +108,31 @@ impl Event {
     }
 }
 
+impl fmt::Display for Cell {
+    ghost output = { λ cell. Some (cell_text cell) };
+
+    fn fmt<W: fmt::Write>(&self, f: &mut fmt::Formatter<W>) -> fmt::Result {
+        match self {
+            Cell::Unknown => f.write_str("unknown"),
+            Cell::Known(value) => write!(f, "{value}"),
+        }
+    }
+}
+
+impl fmt::Display for Event {
+    ghost output = { λ event. Some (event_text event) };
+
+    fn fmt<W: fmt::Write>(&self, f: &mut fmt::Formatter<W>) -> fmt::Result {
+        f.write_str(match self {
+            Event::Hit => "hit",
+            Event::Miss => "miss",
+        })
+    }
+}
+
 fn clamp(sum: i32) -> i16
     ensures value { result ≡ clamped sum }
     ensures range { in_range (Cell.Known result) ≡ true }
 {
-    if sum < LOWEST as i32 {
-        LOWEST
-    } else if sum > HIGHEST as i32 {
-        HIGHEST
-    } else {
-        sum as i16
-    }
+    sum.clamp(LOWEST.into(), HIGHEST.into()) as i16
 }

@@ -16,9 +16,5 @@ pub fn cube_at(index: usize, level: u8) -> usize
     ensures value { result ≡ index / 8 ^ level }
     ensures path { OnlyOnPath level index result }
 {
-    let mut cube = index;
-    for _level in 0..level {
-        cube /= 8;
-    }
-    cube
+    index.checked_shr(3 * u32::from(level)).unwrap_or(0)
 }

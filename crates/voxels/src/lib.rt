@@ -11,4 +11,4 @@ pub use cells::{Cell, Event, State};
 pub use cubes::{cube_at, most_blocks};
 pub use pages::{WorkPage, check_page, wipe_voxels};
 pub use refusals::{Reason, Refusal};
-pub use space::{Position, Voxel, side, voxel_count};
+pub use space::{Axis, Position, Voxel, side, voxel_count};

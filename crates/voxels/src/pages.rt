@@ -27,9 +27,7 @@ pub fn wipe_voxels(words: &mut [u16], depth: u8)
 {
     let count = voxel_count(depth);
     if count <= words.len() {
-        for i in 0..count {
-            words[i] = 0;
-        }
+        words[..count].fill(0);
     }
 }
 
@@ -38,16 +36,10 @@ pub fn check_page(depth: u8, words: usize) -> Result<(), Refusal>
     ensures { told result ≡ over_page depth words (taken tt) }
 {
     if depth == 0 {
-        return Err(Refusal {
-            reason: Reason::NoMap,
-            place: 0,
-        });
+        return Err(Reason::NoMap.into());
     }
     if words < voxel_count(depth) {
-        return Err(Refusal {
-            reason: Reason::ShortPage,
-            place: 0,
-        });
+        return Err(Reason::ShortPage.into());
     }
     Ok(())
 }

@@ -1,70 +1,75 @@
-ghost use Rattle.std.specs.Prelude.{◌≡◌};
+ghost use Rattle.std.specs.Prelude.{◌≡◌, Some};
 ghost use Rattle.voxels.specs.Refusals.{number_of};
+ghost use Rattle.voxels.specs.Texts.{refusal_text};
 
-// Why a call was refused.
-#[derive(Clone, Copy, Debug)]
+use std::fmt;
+
+// Why a call was refused, with the number that labs and suppliers know the reason by.
+#[derive(Clone, Copy, PartialEq, Eq, Debug)]
 pub enum Reason {
-    NoMap,
-    ShortPage,
-    NoLineFeed,
-    MalformedLine,
-    MisplacedLine,
-    TickOutside,
-    TooManyReturns,
-    NotEmpty,
-    MissingPair,
-    PairBelowVoxels,
-    UnmergedPair,
-    TrailingBytes,
-    NotOpen,
-    OutOfRange,
-    BlockLimit,
-    MalformedMove,
-    MoveOutside,
-    ShortOutput,
-    RaggedMask,
-    TooManyRuns,
-    EmptyRun,
-    RunNotAbove,
-    RunPastEnd,
+    NoMap = 1,
+    ShortPage = 2,
+    NoLineFeed = 3,
+    MalformedLine = 4,
+    MisplacedLine = 5,
+    TickOutside = 6,
+    TooManyReturns = 7,
+    NotEmpty = 8,
+    MissingPair = 9,
+    PairBelowVoxels = 10,
+    UnmergedPair = 11,
+    TrailingBytes = 12,
+    NotOpen = 13,
+    OutOfRange = 14,
+    BlockLimit = 15,
+    MalformedMove = 16,
+    MoveOutside = 17,
+    ShortOutput = 18,
+    RaggedMask = 19,
+    TooManyRuns = 20,
+    EmptyRun = 21,
+    RunNotAbove = 22,
+    RunPastEnd = 23,
 }
 
 // A reason and the place that it speaks of, 0 where there is none.
-#[derive(Clone, Copy, Debug)]
+#[derive(Clone, Copy, PartialEq, Eq, Debug)]
 pub struct Refusal {
     pub reason: Reason,
     pub place: u32,
 }
 
 impl Reason {
-    // The number that labs and suppliers know the reason by.
     pub fn number(self) -> u8
         ensures { result ≡ number_of self }
     {
-        match self {
-            Reason::NoMap => 1,
-            Reason::ShortPage => 2,
-            Reason::NoLineFeed => 3,
-            Reason::MalformedLine => 4,
-            Reason::MisplacedLine => 5,
-            Reason::TickOutside => 6,
-            Reason::TooManyReturns => 7,
-            Reason::NotEmpty => 8,
-            Reason::MissingPair => 9,
-            Reason::PairBelowVoxels => 10,
-            Reason::UnmergedPair => 11,
-            Reason::TrailingBytes => 12,
-            Reason::NotOpen => 13,
-            Reason::OutOfRange => 14,
-            Reason::BlockLimit => 15,
-            Reason::MalformedMove => 16,
-            Reason::MoveOutside => 17,
-            Reason::ShortOutput => 18,
-            Reason::RaggedMask => 19,
-            Reason::TooManyRuns => 20,
-            Reason::EmptyRun => 21,
-            Reason::RunNotAbove => 22,
-            Reason::RunPastEnd => 23,
+        self as u8
+    }
+
+    // The refusal for this reason at a place.
+    pub fn at(self, place: u32) -> Refusal
+        ensures { result ≡ record { reason = self; place = place } }
+    {
+        Refusal {
+            reason: self,
+            place,
         }
+    }
+}
+
+// A refusal that speaks of no place.
+impl From<Reason> for Refusal {
+    ghost from_gives = { λ reason refusal. refusal ≡ record { reason = reason; place = 0 } };
+
+    fn from(reason: Reason) -> Refusal {
+        reason.at(0)
+    }
+}
+
+impl fmt::Display for Refusal {
+    ghost output = { λ refusal. Some (refusal_text refusal) };
+
+    fn fmt<W: fmt::Write>(&self, f: &mut fmt::Formatter<W>) -> fmt::Result {
+        write!(f, "refused {} at {}", self.reason.number(), self.place)
     }
 }

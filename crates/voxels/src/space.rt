@@ -1,5 +1,5 @@
 ghost use Rattle.std.specs.Prelude.{◌≡◌, ◌<◌, ◌≤◌, IfSome, Some};
-ghost use Rattle.voxels.specs.Space.{coordinate, index_in, octant, side, voxel_count, voxel_in, voxel_of};
+ghost use Rattle.voxels.specs.Space.{axis_number, coordinate, index_in, octant, side, voxel_count, voxel_in, voxel_of};
 
 // A point of the map's space, in ticks from its corner.
 #[derive(Clone, Copy)]
@@ -14,6 +14,23 @@ pub struct Voxel {
     pub x: u16,
     pub y: u16,
     pub z: u16,
+}
+
+// An axis of the map's space.
+#[derive(Clone, Copy, PartialEq, Eq, Debug)]
+pub enum Axis {
+    X,
+    Y,
+    Z,
+}
+
+impl Axis {
+    // The bit that a digit of an index has for the axis.
+    fn bit(self) -> u8
+        ensures { result ≡ axis_number self }
+    {
+        self as u8
+    }
 }
 
 const TICKS: u16 = 64;
@@ -59,9 +76,9 @@ impl Voxel {
             return None;
         }
         Some(Voxel {
-            x: coordinate(index, depth, 0),
-            y: coordinate(index, depth, 1),
-            z: coordinate(index, depth, 2),
+            x: coordinate(index, depth, Axis::X),
+            y: coordinate(index, depth, Axis::Y),
+            z: coordinate(index, depth, Axis::Z),
         })
     }
 
@@ -82,11 +99,7 @@ pub fn side(depth: u8) -> u16
     ensures { result ≡ side depth }
 {
     match depth {
-        1 => 2,
-        2 => 4,
-        3 => 8,
-        4 => 16,
-        5 => 32,
+        1..=5 => 1 << depth,
         _ => 0,
     }
 }
@@ -95,27 +108,21 @@ pub fn side(depth: u8) -> u16
 pub fn voxel_count(depth: u8) -> usize
     ensures { result ≡ voxel_count depth }
 {
-    match depth {
-        1 => 8,
-        2 => 64,
-        3 => 512,
-        4 => 4096,
-        5 => 32768,
-        _ => 0,
-    }
+    let side = usize::from(side(depth));
+    side * side * side
 }
 
 // A coordinate from an axis's bits of the digits of an index.
-fn coordinate(index: usize, depth: u8, axis: u8) -> u16
-    requires { (depth ≤ 5) × (axis < 3) }
-    ensures { result ≡ coordinate axis depth index }
+fn coordinate(index: usize, depth: u8, axis: Axis) -> u16
+    requires { depth ≤ 5 }
+    ensures { result ≡ coordinate (axis_number axis) depth index }
 {
     let mut rest = index;
     let mut coordinate = 0;
     let mut weight = 1;
     for _level in 0..depth {
         let digit = (rest % 8) as u16;
-        coordinate += weight * ((digit >> axis) % 2);
+        coordinate += weight * ((digit >> axis.bit()) % 2);
         weight *= 2;
         rest /= 8;
     }

@@ -1,6 +1,6 @@
 use Rattle.std.proofs.Common.{◌*◌, ◌%◌, ◌≤◌, refl, mul-le-mul_left, arith, lit<}
 use Rattle.voxels.specs.Bounded.{sum}
-use Rattle.voxels.specs.Space.{bit}
+use Rattle.voxels.specs.Space.{axis_number, bit}
 use Rattle.voxels.proofs.Indices.{pow_small, pow_more, quotient_more, coordinate_more, coordinate_below}
 use Rattle.voxels.proofs.space.coordinate.Goals as goal
 
@@ -12,14 +12,14 @@ pub overflow_add-coordinate : goal.overflow_add-coordinate
 overflow_add-coordinate c =
     let level = c.loop-level._level in
     let w = c.loop-level.weight in
-    let b = bit c.args.axis (c.loop-level.rest % 8) in
+    let b = bit c.bit.result (c.loop-level.rest % 8) in
     let small : w * b ≤ w * 1 = mul-le-mul_left w (omega arith) in
     let weight = pow_small 2 level (lit< tt) (omega arith) in
-    omega (arith, coordinate_below c.args.axis level c.args.index)
+    omega (arith, coordinate_below (axis_number c.args.axis) level c.args.index)
 
 pub loop-level-preserved : goal.loop-level-preserved
 loop-level-preserved c =
     let level = c.loop-level._level in
     let quotient = quotient_more c.args.index level in
-    let more = coordinate_more c.args.axis level c.args.index in
+    let more = coordinate_more (axis_number c.args.axis) level c.args.index in
     (omega (arith, pow_more 2 level), cc, cc)
