@@ -9,7 +9,7 @@ use Rattle.voxels.specs.Space.{is_depth, voxel_count}
 use Rattle.voxels.specs.declared.cells.Cell.{Cell}
 use Rattle.voxels.specs.declared.cells.Cell.TheVariants.{Unknown}
 use Rattle.voxels.proofs.Blocks.{within_most}
-use Rattle.stores.specs.Grids.{grid_cell, grid_depth}
+use Rattle.stores.specs.Grids.{grid_cell, grid_depth, grid_shape}
 use Rattle.stores.specs.Sets.{is_open}
 
 pub grid_outside : (depth : ℕ) (words : List ℕ) (i : ℕ) → voxel_count depth ≤ i → grid_cell depth words i ≡ Unknown
@@ -55,10 +55,10 @@ made_empty depth d words e i = by_fit (is_depth depth && leb (voxel_count depth)
         ∙ grid_empty depth (wiped (voxel_count depth) words)
         (λ j h. get_or_append_left (replicate (voxel_count depth) 0) (drop (voxel_count depth) words) 0 j (simp length-replicate h) ∙ get_or-replicate (voxel_count depth) j 0 0 h) i
 
-pub grid_open : (depth i : ℕ) → i < voxel_count depth → is_open depth (λ _. false) i ≡ true
+pub grid_open : (depth i : ℕ) → i < voxel_count depth → is_open (grid_shape depth) i ≡ true
 grid_open depth i h = and_from _ _ (lt-ltb i (voxel_count depth) h) refl
 
-pub grid_not_open : (depth i : ℕ) → voxel_count depth ≤ i → is_open depth (λ _. false) i ≡ false
+pub grid_not_open : (depth i : ℕ) → voxel_count depth ≤ i → is_open (grid_shape depth) i ≡ false
 grid_not_open depth i h = and_left _ _ (le-ltb i (voxel_count depth) h)
 
 -- a grid's limit is never passed

@@ -1,4 +1,5 @@
 pub mod SetAnswers
 pub mod Sweeps
+pub mod Sweeping
 pub mod GridCells
 pub mod MaskFills

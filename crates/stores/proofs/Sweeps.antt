@@ -10,7 +10,9 @@ use Rattle.voxels.specs.Space.{voxel_count}
 use Rattle.voxels.specs.declared.cells.Cell.{Cell}
 use Rattle.voxels.proofs.Bounds.{count_same, first_at, first_none, first_same}
 use Rattle.stores.specs.Sets.{is_open}
-use Rattle.stores.specs.Sweeps.{Figures, became, is_set, is_skipped, passes_limit, past_or, sweep_answer, swept}
+use Rattle.stores.specs.Shapes.{Shape}
+use Rattle.stores.specs.declared.visits.Swept.{Swept}
+use Rattle.stores.specs.Sweeps.{became, is_set, is_skipped, passes_limit, past_or, sweep_answer, swept}
 
 -- cells that are equal index by index need as many blocks
 pub same_blocks : (depth : ℕ) (f g : ℕ → Cell) → ((i : ℕ) → f i ≡ g i) → blocks_needed depth f ≡ blocks_needed depth g
@@ -25,15 +27,15 @@ put_here f n c i same = cond-true (eqb i n) c (f i) (eq-eqb i n same)
 pub put_other : (f : ℕ → Cell) (n : ℕ) (c : Cell) (i : ℕ) → (i ≡ n → ⊥) → put f n c i ≡ f i
 put_other f n c i other = cond-false (eqb i n) c (f i) (ne_eqb i n other)
 
-pub figures_same : (a b c d : ℕ) → a ≡ c → b ≡ d → ◌≡◌ {A = Figures} (record { set = a; skipped = b }) (record { set = c; skipped = d })
+pub figures_same : (a b c d : ℕ) → a ≡ c → b ≡ d → ◌≡◌ {A = Swept} (record { set = a; skipped = b }) (record { set = c; skipped = d })
 figures_same a b c d p q = cc
 
-module _ (depth : ℕ) (closed : ℕ → Bool) (limit : ℕ) (wanted : ℕ → Option Cell) (cells : ℕ → Cell) where
+module _ (shape : Shape) (wanted : ℕ → Option Cell) (cells : ℕ → Cell) where
   abbrev cells_at : ℕ → ℕ → Cell
-  cells_at = swept depth closed limit wanted cells
+  cells_at = swept shape wanted cells
 
   abbrev sets_at : ℕ → Bool
-  sets_at = is_set depth closed limit wanted cells
+  sets_at = is_set shape wanted cells
 
   -- nothing is done yet at a voxel ahead
   pub swept_ahead : (n i : ℕ) → n ≤ i → cells_at n i ≡ cells i
@@ -78,17 +80,17 @@ module _ (depth : ℕ) (closed : ℕ → Bool) (limit : ℕ) (wanted : ℕ → O
     reached_forth c is sets i = ap (λ v. put now n v i) is ∙ same_put now (cells_at n) n (became (wanted n) (cells n)) reached i ∙ swept_forth n i sets
 
   -- nothing is set before the first voxel
-  pub fitted_starts : blocks_needed depth cells ≤ limit → (m : ℕ) → m ≤ 0 → blocks_needed depth (cells_at m) ≤ limit
-  fitted_starts fits m h = omega (arith, same_blocks depth (cells_at m) cells (λ i. swept_ahead m i (omega arith)), fits)
+  pub fitted_starts : blocks_needed shape.depth cells ≤ shape.limit → (m : ℕ) → m ≤ 0 → blocks_needed shape.depth (cells_at m) ≤ shape.limit
+  fitted_starts fits m h = omega (arith, same_blocks shape.depth (cells_at m) cells (λ i. swept_ahead m i (omega arith)), fits)
 
-  pub fitted_stays : (n : ℕ) → sets_at n ≡ false → blocks_needed depth (cells_at n) ≤ limit → blocks_needed depth (cells_at (suc n)) ≤ limit
-  fitted_stays n none fits = omega (arith, same_blocks depth (cells_at (suc n)) (cells_at n) (λ i. swept_stays n i none), fits)
+  pub fitted_stays : (n : ℕ) → sets_at n ≡ false → blocks_needed shape.depth (cells_at n) ≤ shape.limit → blocks_needed shape.depth (cells_at (suc n)) ≤ shape.limit
+  fitted_stays n none fits = omega (arith, same_blocks shape.depth (cells_at (suc n)) (cells_at n) (λ i. swept_stays n i none), fits)
 
   -- one voxel more that fits
-  pub fitted_forth : (n : ℕ) → ((m : ℕ) → m ≤ n → blocks_needed depth (cells_at m) ≤ limit) → blocks_needed depth (cells_at (suc n)) ≤ limit → (m : ℕ) → m ≤ suc n → blocks_needed depth (cells_at m) ≤ limit
+  pub fitted_forth : (n : ℕ) → ((m : ℕ) → m ≤ n → blocks_needed shape.depth (cells_at m) ≤ shape.limit) → blocks_needed shape.depth (cells_at (suc n)) ≤ shape.limit → (m : ℕ) → m ≤ suc n → blocks_needed shape.depth (cells_at m) ≤ shape.limit
   fitted_forth n fitted fits m h =
       ⊎_elim
-      (λ last. let P : ℕ → Type 0 = λ k. blocks_needed depth (cells_at k) ≤ limit in subst P (sym last) fits)
+      (λ last. let P : ℕ → Type 0 = λ k. blocks_needed shape.depth (cells_at k) ≤ shape.limit in subst P (sym last) fits)
       (λ earlier. fitted m (omega arith))
       (cases_eq m (suc n))
 
@@ -100,50 +102,67 @@ module _ (depth : ℕ) (closed : ℕ → Bool) (limit : ℕ) (wanted : ℕ → O
       (λ other. put_other (cells_at (suc n)) n _ i other ∙ swept_other n i other)
       (cases_eq i n)
 
-  pub within_limit : (n : ℕ) → blocks_needed depth (cells_at (suc n)) ≤ limit → passes_limit depth closed limit wanted cells n ≡ false
+  pub within_limit : (n : ℕ) → blocks_needed shape.depth (cells_at (suc n)) ≤ shape.limit → passes_limit shape wanted cells n ≡ false
   unfolding passes_limit
-  within_limit n fits = and_right (sets_at n) _ (le-ltb limit _ fits)
+  within_limit n fits = and_right (sets_at n) _ (le-ltb shape.limit _ fits)
 
-  pub past_limit : (n : ℕ) → sets_at n ≡ true → limit < blocks_needed depth (cells_at (suc n)) → passes_limit depth closed limit wanted cells n ≡ true
+  pub unset_within : (n : ℕ) → sets_at n ≡ false → passes_limit shape wanted cells n ≡ false
   unfolding passes_limit
-  past_limit n is more = and_from (sets_at n) _ is (lt-ltb limit _ more)
+  unset_within n none = and_left (sets_at n) _ none
 
-  pub sweep_taken : ((n : ℕ) → n < voxel_count depth → passes_limit depth closed limit wanted cells n ≡ false) → sweep_answer depth closed limit wanted cells ≡ taken (record { set = count (voxel_count depth) sets_at; skipped = count (voxel_count depth) (is_skipped depth closed limit wanted cells) })
-  unfolding sweep_answer
-  sweep_taken none = ap (λ o. past_or o (record { set = count (voxel_count depth) sets_at; skipped = count (voxel_count depth) (is_skipped depth closed limit wanted cells) })) (first_none (voxel_count depth) (passes_limit depth closed limit wanted cells) none)
+  -- voxels that are not set change nothing
+  pub swept_beyond : (n m : ℕ) → n ≤ m → ((k : ℕ) → n ≤ k → k < m → sets_at k ≡ false) → (i : ℕ) → cells_at n i ≡ cells_at m i
+  swept_beyond n m low none i =
+      ⊎_elim
+      (λ before. ap (λ b. cond (b && sets_at i) (became (wanted i) (cells i)) (cells i)) (lt-ltb i n before ∙ sym (lt-ltb i m (omega arith))))
+      (λ past.
+      swept_ahead n i past
+      ∙ ⊎_elim
+      (λ inside. sym (cond-false (ltb i m && sets_at i) _ _ (and_right (ltb i m) (sets_at i) (none i past inside))))
+      (λ beyond. sym (swept_ahead m i beyond))
+      (cases_lt i m))
+      (cases_lt i n)
 
-  pub sweep_refused : (n : ℕ) → n < voxel_count depth → passes_limit depth closed limit wanted cells n ≡ true → ((k : ℕ) → k < n → passes_limit depth closed limit wanted cells k ≡ false) → sweep_answer depth closed limit wanted cells ≡ refused 15 n
+  pub past_limit : (n : ℕ) → sets_at n ≡ true → shape.limit < blocks_needed shape.depth (cells_at (suc n)) → passes_limit shape wanted cells n ≡ true
+  unfolding passes_limit
+  past_limit n is more = and_from (sets_at n) _ is (lt-ltb shape.limit _ more)
+
+  pub sweep_taken : ((n : ℕ) → n < voxel_count shape.depth → passes_limit shape wanted cells n ≡ false) → sweep_answer shape wanted cells ≡ taken (record { set = count (voxel_count shape.depth) sets_at; skipped = count (voxel_count shape.depth) (is_skipped shape wanted cells) })
   unfolding sweep_answer
-  sweep_refused n inside past before = ap (λ o. past_or o (record { set = count (voxel_count depth) sets_at; skipped = count (voxel_count depth) (is_skipped depth closed limit wanted cells) })) (first_at (voxel_count depth) (passes_limit depth closed limit wanted cells) n inside past before)
+  sweep_taken none = ap (λ o. past_or o (record { set = count (voxel_count shape.depth) sets_at; skipped = count (voxel_count shape.depth) (is_skipped shape wanted cells) })) (first_none (voxel_count shape.depth) (passes_limit shape wanted cells) none)
+
+  pub sweep_refused : (n : ℕ) → n < voxel_count shape.depth → passes_limit shape wanted cells n ≡ true → ((k : ℕ) → k < n → passes_limit shape wanted cells k ≡ false) → sweep_answer shape wanted cells ≡ refused 15 n
+  unfolding sweep_answer
+  sweep_refused n inside past before = ap (λ o. past_or o (record { set = count (voxel_count shape.depth) sets_at; skipped = count (voxel_count shape.depth) (is_skipped shape wanted cells) })) (first_at (voxel_count shape.depth) (passes_limit shape wanted cells) n inside past before)
 
   -- the voxel that does not fit where all before it did is refused
-  pub past_refused : (n : ℕ) → n < voxel_count depth → sets_at n ≡ true → ((m : ℕ) → m ≤ n → blocks_needed depth (cells_at m) ≤ limit) → limit < blocks_needed depth (cells_at (suc n)) → sweep_answer depth closed limit wanted cells ≡ refused 15 n
+  pub past_refused : (n : ℕ) → n < voxel_count shape.depth → sets_at n ≡ true → ((m : ℕ) → m ≤ n → blocks_needed shape.depth (cells_at m) ≤ shape.limit) → shape.limit < blocks_needed shape.depth (cells_at (suc n)) → sweep_answer shape wanted cells ≡ refused 15 n
   past_refused n inside is fitted more = sweep_refused n inside (past_limit n is more) (λ k h. within_limit k (fitted (suc k) (omega arith)))
 
 -- sweeps that want the same on the map have one effect
-module _ (depth : ℕ) (closed : ℕ → Bool) (limit : ℕ) (cells : ℕ → Cell) (wanted others : ℕ → Option Cell) (agree : (k : ℕ) → k < voxel_count depth → wanted k ≡ others k) where
-  pub same_swept : (n i : ℕ) → swept depth closed limit wanted cells n i ≡ swept depth closed limit others cells n i
+module _ (shape : Shape) (cells : ℕ → Cell) (wanted others : ℕ → Option Cell) (agree : (k : ℕ) → k < voxel_count shape.depth → wanted k ≡ others k) where
+  pub same_swept : (n i : ℕ) → swept shape wanted cells n i ≡ swept shape others cells n i
   same_swept n i =
       ⊎_elim
-      (λ inside. ap (λ w. cond (ltb i n && (is_open depth closed i && is_some w)) (became w (cells i)) (cells i)) (agree i inside))
+      (λ inside. ap (λ w. cond (ltb i n && (is_open shape i && is_some w)) (became w (cells i)) (cells i)) (agree i inside))
       (λ past.
-      let shut : is_open depth closed i ≡ false = and_left _ _ (le-ltb i (voxel_count depth) past) in
-      let none : (w : Option Cell) → cond (ltb i n && (is_open depth closed i && is_some w)) (became w (cells i)) (cells i) ≡ cells i =
-      λ w. cond-false _ _ _ (and_right (ltb i n) (is_open depth closed i && is_some w) (and_left (is_open depth closed i) (is_some w) shut)) in
+      let shut : is_open shape i ≡ false = and_left _ _ (le-ltb i (voxel_count shape.depth) past) in
+      let none : (w : Option Cell) → cond (ltb i n && (is_open shape i && is_some w)) (became w (cells i)) (cells i) ≡ cells i =
+      λ w. cond-false _ _ _ (and_right (ltb i n) (is_open shape i && is_some w) (and_left (is_open shape i) (is_some w) shut)) in
       none (wanted i) ∙ sym (none (others i)))
-      (cases_lt i (voxel_count depth))
+      (cases_lt i (voxel_count shape.depth))
 
-  pub same_past : (k : ℕ) → k < voxel_count depth → passes_limit depth closed limit wanted cells k ≡ passes_limit depth closed limit others cells k
+  pub same_past : (k : ℕ) → k < voxel_count shape.depth → passes_limit shape wanted cells k ≡ passes_limit shape others cells k
   unfolding passes_limit
   same_past k inside =
-      ap₂ (λ (w : Option Cell) (b : ℕ). (is_open depth closed k && is_some w) && ltb limit b) (agree k inside)
-      (same_blocks depth (swept depth closed limit wanted cells (suc k)) (swept depth closed limit others cells (suc k)) (same_swept (suc k)))
+      ap₂ (λ (w : Option Cell) (b : ℕ). (is_open shape k && is_some w) && ltb shape.limit b) (agree k inside)
+      (same_blocks shape.depth (swept shape wanted cells (suc k)) (swept shape others cells (suc k)) (same_swept (suc k)))
 
-  pub same_sweep : sweep_answer depth closed limit wanted cells ≡ sweep_answer depth closed limit others cells
+  pub same_sweep : sweep_answer shape wanted cells ≡ sweep_answer shape others cells
   unfolding sweep_answer
   same_sweep =
-      let n = voxel_count depth in
-      ap₂ past_or (first_same n (passes_limit depth closed limit wanted cells) (passes_limit depth closed limit others cells) same_past)
+      let n = voxel_count shape.depth in
+      ap₂ past_or (first_same n (passes_limit shape wanted cells) (passes_limit shape others cells) same_past)
       (figures_same _ _ _ _
-      (count_same n (is_set depth closed limit wanted cells) (is_set depth closed limit others cells) (λ k h. ap (λ w. is_open depth closed k && is_some w) (agree k h)))
-      (count_same n (is_skipped depth closed limit wanted cells) (is_skipped depth closed limit others cells) (λ k h. ap (λ w. not (is_open depth closed k) && is_some w) (agree k h))))
+      (count_same n (is_set shape wanted cells) (is_set shape others cells) (λ k h. ap (λ w. is_open shape k && is_some w) (agree k h)))
+      (count_same n (is_skipped shape wanted cells) (is_skipped shape others cells) (λ k h. ap (λ w. not (is_open shape k) && is_some w) (agree k h))))

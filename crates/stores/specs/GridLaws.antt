@@ -8,7 +8,7 @@ use Rattle.voxels.specs.Cubes.{most_blocks}
 use Rattle.voxels.specs.Space.{voxel_count}
 use Rattle.voxels.specs.declared.cells.Cell.TheVariants.{Unknown, Known}
 use Rattle.voxels.proofs.Blocks.{within_most}
-use Rattle.stores.specs.Grids.{grid_cell}
+use Rattle.stores.specs.Grids.{grid_cell, grid_shape}
 use Rattle.stores.specs.Laws.{Lawful}
 
 word_ranged : (w : ℕ) → in_range (word_cell w) ≡ true
@@ -23,7 +23,7 @@ word_ranged w =
     (λ no_cell. refl)
 
 module _ {G : Type 0} (depth : G → ℕ) (words : G → List ℕ) (shallow : (g : G) → depth g ≤ 5) where
-  pub grid_lawful : Lawful depth (λ g. grid_cell (depth g) (words g)) (λ g. most_blocks (depth g))
+  pub grid_lawful : Lawful (λ g. grid_shape (depth g)) (λ g. grid_cell (depth g) (words g))
   grid_lawful = record {
     shallow = shallow;
     outside = λ g i past. cond-false _ _ Unknown (le-ltb i (voxel_count (depth g)) past);

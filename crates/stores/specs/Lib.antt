@@ -1,6 +1,8 @@
+pub mod Shapes
 pub mod Laws
 pub mod Sets
 pub mod Sweeps
+pub mod Visits
 pub mod Grids
 pub mod GridLaws
 pub mod Masks

@@ -1,8 +1,10 @@
 -- A mask closes runs of indices. Its bytes are pairs of an offset and a length, 16 bits each, low byte first.
-use Rattle.std.specs.Prelude.{◌≡◌, ℕ, zero, suc, ◌+◌, ◌*◌, ◌/◌, ◌%◌, ◌<◌, ◌≤◌, Bool, cond, not, ◌&&◌, List, length, get_or, is_some, Some, None, Ok, Err, Option, Result, ◌==◌, nat_le, nat_lt, slice_index, slice_index_or}
+use Rattle.std.specs.Prelude.{◌≡◌, ℕ, zero, suc, ◌+◌, ◌*◌, ◌/◌, ◌%◌, ◌<◌, ◌≤◌, Bool, cond, not, ◌&&◌, ◌||◌, List, length, is_some, Some, None, Ok, Err, Option, Result, ◌==◌, nat_le, nat_lt, slice_index, slice_index_or}
+use Rattle.std.specs.List.{list_any}
 use Rattle.voxels.specs.Bounded.{some, first}
 use Rattle.voxels.specs.Refusals.{Told, taken, refused, number_of}
 use Rattle.voxels.specs.declared.refusals.Refusal.{Refusal}
+use Rattle.stores.specs.Shapes.{Shape}
 use Rattle.stores.specs.declared.mask.Run.{Run}
 
 -- the indices from offset on, as many as length
@@ -15,13 +17,17 @@ run_end run = run.offset + run.length
 abbrev pub no_run : Run
 no_run = record { offset = 0; length = 0 }
 
--- some of the first n runs holds the index
-abbrev pub closed_by : List Run → ℕ → ℕ → Bool
-closed_by runs n i = some n (λ k. in_run (slice_index_or runs k no_run) i)
+-- some of the runs holds the index
+abbrev pub closed_by : List Run → ℕ → Bool
+closed_by runs i = list_any (λ run. in_run run i) runs
 
--- each of the first n runs has an index, ends by 32,768 and leaves a gap before the next
-abbrev pub Ordered : List Run → ℕ → Type 0
-Ordered runs n = (k : ℕ) → k < n → (1 ≤ (get_or runs k no_run).length) × (run_end (slice_index_or runs k no_run) ≤ 32768) × (suc k < n → run_end (slice_index_or runs k no_run) < (get_or runs (suc k) no_run).offset)
+-- a store under a mask: that closes too what the mask does
+abbrev pub masked_shape : Shape → (ℕ → Bool) → Shape
+masked_shape shape mask = record { depth = shape.depth; closed = λ i. shape.closed i || mask i; limit = shape.limit }
+
+-- each run that has an index ends by 32,768, and the one ahead of it has an index too and leaves a gap
+abbrev pub Ordered : List Run → Type 0
+Ordered runs = (k : ℕ) → 1 ≤ (slice_index_or runs k no_run).length → (run_end (slice_index_or runs k no_run) ≤ 32768) × ((j : ℕ) → suc j ≡ k → (1 ≤ (slice_index_or runs j no_run).length) × (run_end (slice_index_or runs j no_run) < (slice_index_or runs k no_run).offset))
 
 -- the run that pair p says
 abbrev pub pair_run : List ℕ → ℕ → Run
@@ -62,7 +68,7 @@ fill_answer bytes =
 abbrev pub closed_by_bytes : List ℕ → ℕ → Bool
 closed_by_bytes bytes i = some (pair_count bytes) (λ p. in_run (pair_run bytes p) i)
 
--- the runs of all pairs, or the refusal of the fill
+-- the runs of all pairs and behind them empty ones, 16 in all, or the refusal of the fill
 abbrev pub RunsRead : List ℕ → Result (List Run) Refusal → Type 0
-RunsRead bytes (Ok runs) = (fill_answer bytes ≡ taken tt) × (pair_count bytes ≤ 16) × ((k : ℕ) → k < pair_count bytes → slice_index_or runs k no_run ≡ pair_run bytes k) × Ordered runs (pair_count bytes)
+RunsRead bytes (Ok runs) = (fill_answer bytes ≡ taken tt) × (pair_count bytes ≤ length runs) × ((k : ℕ) → k < pair_count bytes → slice_index_or runs k no_run ≡ pair_run bytes k) × ((k : ℕ) → pair_count bytes ≤ k → slice_index_or runs k no_run ≡ no_run) × Ordered runs
 RunsRead bytes (Err e) = fill_answer bytes ≡ refused (number_of e.reason) e.place

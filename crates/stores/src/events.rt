@@ -8,10 +8,8 @@ use voxels::{Event, Refusal};
 
 // Lets a cell of any store see a hit or a miss: a set of the updated cell, refused as that set is.
 pub fn apply<S: Store>(store: &mut S, index: usize, event: Event) -> Result<(), Refusal>
-    ensures done { SetDone (S.depth store.old) (S.closed store.old) (S.limit store.old) (S.cell store.old) index (updated (S.cell store.old index) event) (told result) (S.cell store.new) }
-    ensures depth { S.depth store.new ≡ S.depth store.old }
-    ensures closed { S.closed store.new ≡ S.closed store.old }
-    ensures limit { S.limit store.new ≡ S.limit store.old }
+    ensures done { SetDone (S.shape store.old) (S.cell store.old) index (updated (S.cell store.old index) event) (told result) (S.cell store.new) }
+    ensures shape { S.shape store.new ≡ S.shape store.old }
 {
     let before = store.read(index);
     store.set(index, before.updated(event))

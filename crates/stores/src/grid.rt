@@ -1,7 +1,6 @@
-ghost use Rattle.std.specs.Prelude.{◌≡◌, ℕ, ◌≤◌, false, length};
+ghost use Rattle.std.specs.Prelude.{◌≡◌, ℕ, ◌≤◌, length};
 ghost use Rattle.stores.specs.GridLaws.{grid_lawful};
-ghost use Rattle.stores.specs.Grids.{grid_cell, grid_depth};
-ghost use Rattle.voxels.specs.Cubes.{most_blocks};
+ghost use Rattle.stores.specs.Grids.{grid_cell, grid_depth, grid_shape};
 ghost use Rattle.voxels.specs.Pages.{guarded, wiped};
 ghost use Rattle.voxels.specs.Space.{voxel_count};
 ghost use Rattle.voxels.specs.declared.cells.Cell.TheVariants.{Unknown};
@@ -32,13 +31,9 @@ impl<'a> Grid<'a> {
 }
 
 impl Store for Grid<'_> {
-    ghost depth = { λ g. g.depth };
+    ghost shape = { λ g. grid_shape g.depth };
 
     ghost cell = { λ g. grid_cell g.depth g.words.now };
-
-    ghost closed = { λ _ _. false };
-
-    ghost limit = { λ g. most_blocks g.depth };
 
     ghost laws = { grid_lawful (λ g. g.depth) (λ g. g.words.now) (λ g. g.shallow) };
 
@@ -65,25 +60,17 @@ impl Store for Grid<'_> {
 
     fn set(&mut self, index: usize, value: Cell) -> Result<(), Refusal> {
         if index >= voxel_count(self.depth) {
-            return Err(Refusal {
-                reason: Reason::NotOpen,
-                place: 0,
-            });
+            return Err(Reason::NotOpen.into());
         }
         if !value.in_range() {
-            return Err(Refusal {
-                reason: Reason::OutOfRange,
-                place: 0,
-            });
+            return Err(Reason::OutOfRange.into());
         }
         self.words[index] = value.word();
         Ok(())
     }
 
     fn clear(&mut self) {
-        for index in 0..voxel_count(self.depth) {
-            self.words[index] = 0;
-        }
+        wipe_voxels(self.words, self.depth);
     }
 }
 

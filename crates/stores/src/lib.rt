@@ -6,9 +6,11 @@ mod grid;
 mod mask;
 mod masked;
 mod store;
+mod visits;
 
 pub use events::apply;
 pub use grid::Grid;
 pub use mask::Mask;
 pub use masked::Masked;
 pub use store::Store;
+pub use visits::{Rule, Swept, sweep};

@@ -1,8 +1,10 @@
-ghost use Rattle.std.specs.Prelude.{◌≡◌, ℕ, ◌+◌, ◌*◌, ◌<◌, ◌≤◌, false, length, MatchResult};
+ghost use Rattle.std.specs.Prelude.{◌≡◌, ℕ, false, List, MatchResult};
 ghost use Rattle.std.specs.Option.{option_map};
 ghost use Rattle.stores.specs.Masks.{Ordered, RunsRead, closed_by, closed_by_bytes, fill_answer, in_run, pair_run, run_end, run_fault};
+ghost use Rattle.stores.specs.declared.mask.Run.{Run};
 ghost use Rattle.voxels.specs.Refusals.{number_of, told};
 
+use std::marker::Model;
 use voxels::{Reason, Refusal};
 
 const MOST_RUNS: usize = 16;
@@ -17,16 +19,29 @@ pub struct Run {
     pub length: u16,
 }
 
-// Runs of indices that a clamp or a fixture closes, in order with a gap between them.
+// Runs of indices that a clamp or a fixture closes, in order with a gap between them. Those that are not used are empty and stand behind the others.
 #[derive(Clone, Copy)]
 pub struct Mask {
-    runs: [Run; 16],
-    count: usize,
-    ghost few: { count ≤ 16 },
-    ghost ordered: { Ordered runs count },
+    runs: [Run; MOST_RUNS],
+}
+
+impl Model for Mask {
+    ghost Value = { List Run };
+
+    ghost view = { λ mask. mask.runs };
+
+    ghost invariant = { λ mask. Ordered mask.runs };
+
+    ghost inverse = { λ runs. record { runs = runs } };
 }
 
 impl Run {
+    // Holds no index.
+    const NONE: Run = Run {
+        offset: 0,
+        length: 0,
+    };
+
     fn end(self) -> u32
         ensures { result ≡ run_end self }
     {
@@ -55,87 +70,65 @@ impl Run {
     }
 }
 
+// The run that a pair of numbers says, low byte first.
+impl From<[u8; 4]> for Run {
+    ghost from_gives = { λ bytes run. run ≡ pair_run bytes 0 };
+
+    fn from(bytes: [u8; 4]) -> Run {
+        let [a, b, c, d] = bytes;
+        Run {
+            offset: u16::from_le_bytes([a, b]),
+            length: u16::from_le_bytes([c, d]),
+        }
+    }
+}
+
 impl Mask {
     // Closes nothing.
     pub fn empty() -> Mask
-        ensures { (i : ℕ) → closed_by result.runs result.count i ≡ false }
+        ensures { (i : ℕ) → closed_by result i ≡ false }
     {
-        let none = Run {
-            offset: 0,
-            length: 0,
-        };
         Mask {
-            runs: [none; 16],
-            count: 0,
+            runs: [Run::NONE; MOST_RUNS],
         }
     }
 
     // Replaces the runs by those that the bytes say, or refuses them and stays as it was.
     pub fn fill(&mut self, bytes: &[u8]) -> Result<(), Refusal>
         ensures tells { told result ≡ fill_answer bytes.now }
-        ensures leaves { MatchResult result (λ _. (i : ℕ) → closed_by self.new.runs self.new.count i ≡ closed_by_bytes bytes.now i) (λ _. self.new ≡ self.old) }
+        ensures leaves { MatchResult result (λ _. (i : ℕ) → closed_by self.new i ≡ closed_by_bytes bytes.now i) (λ _. self.new ≡ self.old) }
     {
-        let runs = read_runs(bytes)?;
-        *self = Mask {
-            runs,
-            count: bytes.len() / 4,
-        };
+        self.runs = read_runs(bytes)?;
         Ok(())
     }
 
     pub fn closes(&self, index: usize) -> bool
-        ensures { result ≡ closed_by self.now.runs self.now.count index }
+        ensures { result ≡ closed_by self.now index }
     {
-        for k in 0..self.count {
-            if self.runs[k].holds(index) {
-                return true;
-            }
-        }
-        false
+        self.runs.iter().any(|run| run.holds(index))
     }
 }
 
 // The runs of the pairs, from the front; the first wrong one decides.
-fn read_runs(bytes: &[u8]) -> Result<[Run; 16], Refusal>
+fn read_runs(bytes: &[u8]) -> Result<[Run; MOST_RUNS], Refusal>
     ensures { RunsRead bytes.now result }
 {
-    if bytes.len() % 4 != 0 {
-        return Err(Refusal {
-            reason: Reason::RaggedMask,
-            place: 0,
-        });
+    let (pairs, rest) = bytes.as_chunks::<4>();
+    if !rest.is_empty() {
+        return Err(Reason::RaggedMask.into());
     }
-    let pairs = bytes.len() / 4;
-    if pairs > MOST_RUNS {
-        return Err(Refusal {
-            reason: Reason::TooManyRuns,
-            place: 0,
-        });
+    if pairs.len() > MOST_RUNS {
+        return Err(Reason::TooManyRuns.into());
     }
-    let mut runs = [Run {
-        offset: 0,
-        length: 0,
-    }; 16];
+    let mut runs = [Run::NONE; MOST_RUNS];
     let mut least = 0;
-    for pair in 0..pairs {
-        let run = run_at(bytes, pair);
+    for (at, pair) in pairs.iter().enumerate() {
+        let run = Run::from(*pair);
         if let Some(reason) = run.fault(least) {
-            let place = (4 * pair) as u32;
-            return Err(Refusal { reason, place });
+            return Err(reason.at(4 * at as u32));
         }
-        runs[pair] = run;
+        runs[at] = run;
         least = run.end() + 1;
     }
     Ok(runs)
-}
-
-fn run_at(bytes: &[u8], pair: usize) -> Run
-    requires { 4 * pair + 3 < length bytes.now }
-    ensures { result ≡ pair_run bytes.now pair }
-{
-    let at = 4 * pair;
-    Run {
-        offset: u16::from_le_bytes([bytes[at], bytes[at + 1]]),
-        length: u16::from_le_bytes([bytes[at + 2], bytes[at + 3]]),
-    }
 }

@@ -1,6 +1,6 @@
-ghost use Rattle.std.specs.Prelude.{◌≡◌, ℕ, ◌||◌};
+ghost use Rattle.std.specs.Prelude.{◌≡◌, ℕ};
 ghost use Rattle.stores.specs.MaskedLaws.{masked_lawful};
-ghost use Rattle.stores.specs.Masks.{closed_by};
+ghost use Rattle.stores.specs.Masks.{closed_by, masked_shape};
 
 use crate::mask::Mask;
 use crate::store::Store;
@@ -23,15 +23,11 @@ impl<S> Masked<S> {
 }
 
 impl<S: Store> Store for Masked<S> {
-    ghost depth = { λ m. S.Store.depth m.store };
+    ghost shape = { λ m. masked_shape (S.shape m.store) (closed_by m.mask) };
 
-    ghost cell = { λ m. S.Store.cell m.store };
+    ghost cell = { λ m. S.cell m.store };
 
-    ghost closed = { λ m i. S.Store.closed m.store i || closed_by m.mask.runs m.mask.count i };
-
-    ghost limit = { λ m. S.Store.limit m.store };
-
-    ghost laws = { masked_lawful (λ m. m.store) S.Store.laws };
+    ghost laws = { masked_lawful (λ m. m.store) (λ m. closed_by m.mask) S.laws };
 
     const LETTER: char = S::LETTER;
 
@@ -53,10 +49,7 @@ impl<S: Store> Store for Masked<S> {
 
     fn set(&mut self, index: usize, value: Cell) -> Result<(), Refusal> {
         if self.mask.closes(index) {
-            return Err(Refusal {
-                reason: Reason::NotOpen,
-                place: 0,
-            });
+            return Err(Reason::NotOpen.into());
         }
         self.store.set(index, value)
     }

@@ -1,6 +1,6 @@
 -- Laws of the quantifiers and sums over the numbers below a bound.
 use Rattle.std.proofs.Common.{◌≡◌, ℕ, zero, suc, ◌+◌, ◌*◌, ◌<◌, ◌≤◌, Bool, true, false, cond, Some, None, Option, sym, refl, ap, ◌∙◌, ap₂, ⊎_elim, le_refl, mul-add, add-one, arith}
-use Rattle.std.proofs.lemmas.Bool.{and_from, and_left, and_parts, and_right, both_ways, cases_Bool, cases_eq, cond-true, or_from, or_left, or_right}
+use Rattle.std.proofs.lemmas.Bool.{and_from, and_left, and_parts, and_right, both_ways, cases_Bool, cases_eq, cond-false, cond-true, or_from, or_left, or_right}
 use Rattle.voxels.specs.Bounded.{some, all, sum, count, first}
 
 -- a test that cannot hold fails
@@ -46,6 +46,17 @@ count_le (suc n) p = let rest = count_le n p in elim (p n) as (λ b. cond b 1 0 
 pub count_more : (n : ℕ) (p : ℕ → Bool) → count (n + 1) p ≡ cond (p n) 1 0 + count n p
 unfolding count sum
 count_more n p = rw add-one
+
+-- numbers that lack it count for nothing
+pub count_beyond : (n m : ℕ) (p : ℕ → Bool) → n ≤ m → ((k : ℕ) → n ≤ k → k < m → p k ≡ false) → count m p ≡ count n p
+count_beyond n zero p low none = ap (λ k. count k p) (let e : zero ≡ n = omega arith in e)
+count_beyond n (suc m) p low none =
+    ⊎_elim
+    (λ here. ap (λ k. count k p) (sym here))
+    (λ later.
+    let last : ◌≡◌ {A = ℕ} (cond (p m) 1 0) 0 = cond-false (p m) 1 0 (none m (omega arith) (omega arith)) in
+    ap (λ k. count k p) (sym (add-one m)) ∙ omega (arith, count_more m p, last, count_beyond n m p (omega arith) (λ k a b. none k a (omega arith))))
+    (cases_eq n (suc m))
 
 pub count_has : (n : ℕ) (p : ℕ → Bool) (k : ℕ) → k < n → p k ≡ true → 1 ≤ count n p
 unfolding count sum

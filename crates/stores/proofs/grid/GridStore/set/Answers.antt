@@ -1,6 +1,8 @@
-use Rattle.std.proofs.Common.{sym, refl, ◌∙◌, arith}
-use Rattle.stores.specs.Grids.{grid_cell}
+use Rattle.std.proofs.Common.{sym, refl, ap, ◌∙◌, arith}
+use Rattle.stores.specs.Grids.{grid_cell, grid_shape}
 use Rattle.voxels.specs.Cells.{put}
+use Rattle.voxels.specs.Refusals.{refused, number_of}
+use Rattle.voxels.specs.declared.refusals.Refusal.{Refusal}
 use Rattle.stores.proofs.SetAnswers.{answer_not_open, answer_out_of_range, answer_taken}
 use Rattle.stores.proofs.GridCells.{grid_open, grid_not_open, grid_limit, grid_put}
 use Rattle.voxels.proofs.Indices.{count_above}
@@ -10,24 +12,20 @@ pub returns-then-index-voxel_count : goal.returns-then-index-voxel_count
 returns-then-index-voxel_count c =
     record {
       done = record {
-        tells = sym (answer_not_open _ _ _ _ _ _ (grid_not_open c.args.self.now.depth c.args.index (omega arith)));
+        tells = ap (λ (r : Refusal). refused (number_of r.reason) r.place) c.into.ensures ∙ sym (answer_not_open (grid_shape c.args.self.now.depth) _ _ _ (grid_not_open c.args.self.now.depth c.args.index (omega arith)));
         leaves = λ j. refl;
       };
-      depth = refl;
-      closed = refl;
-      limit = refl;
+      shape = refl;
     }
 
 pub returns-then-not-in_range : goal.returns-then-not-in_range
 returns-then-not-in_range c =
     record {
       done = record {
-        tells = sym (answer_out_of_range _ _ _ _ _ _ (grid_open c.args.self.now.depth c.args.index (omega arith)) (sym c.in_range.ensures ∙ c.if-not-in_range.true));
+        tells = ap (λ (r : Refusal). refused (number_of r.reason) r.place) c.into-then-not-in_range.ensures ∙ sym (answer_out_of_range (grid_shape c.args.self.now.depth) _ _ _ (grid_open c.args.self.now.depth c.args.index (omega arith)) (sym c.in_range.ensures ∙ c.if-not-in_range.true));
         leaves = λ j. refl;
       };
-      depth = refl;
-      closed = refl;
-      limit = refl;
+      shape = refl;
     }
 
 pub returns : goal.returns
@@ -39,10 +37,8 @@ returns c =
     let ranged = sym c.in_range.ensures ∙ c.if-not-in_range.false in
     record {
       done = record {
-        tells = sym (answer_taken _ _ _ _ _ _ (grid_open depth i (omega arith)) ranged (grid_limit depth (put (grid_cell depth words) i c.args.value) map.0 map.1));
+        tells = sym (answer_taken (grid_shape depth) _ _ _ (grid_open depth i (omega arith)) ranged (grid_limit depth (put (grid_cell depth words) i c.args.value) map.0 map.1));
         leaves = grid_put depth words i c.word.result c.args.value (omega arith) c.args.self.now.fits (c.word.ensures.back ranged);
       };
-      depth = refl;
-      closed = refl;
-      limit = refl;
+      shape = refl;
     }

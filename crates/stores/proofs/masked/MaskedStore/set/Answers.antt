@@ -1,5 +1,7 @@
-use Rattle.std.proofs.Common.{◌||◌, sym, refl, ap, ◌∙◌}
-use Rattle.stores.specs.Masks.{closed_by}
+use Rattle.std.proofs.Common.{sym, refl, ap, ◌∙◌}
+use Rattle.voxels.specs.Refusals.{refused, number_of}
+use Rattle.voxels.specs.declared.refusals.Refusal.{Refusal}
+use Rattle.stores.specs.Masks.{closed_by, masked_shape}
 use Rattle.stores.proofs.SetAnswers.{answer_masked, answer_unmasked}
 use Rattle.stores.proofs.masked.MaskedStore.set.Goals as goal
 
@@ -10,12 +12,10 @@ returns-then-closes g c =
     let s = g.S.Store in
     record {
       done = record {
-        tells = sym (answer_masked (s.depth store) (s.closed store) (closed_by mask.runs mask.count) (s.limit store) (s.cell store) c.args.index c.args.value (sym c.if-closes.ensures));
+        tells = ap (λ (r : Refusal). refused (number_of r.reason) r.place) c.into.ensures ∙ sym (answer_masked (s.shape store) (closed_by mask) (s.cell store) c.args.index c.args.value (sym c.if-closes.ensures));
         leaves = λ j. refl;
       };
-      depth = refl;
-      closed = refl;
-      limit = refl;
+      shape = refl;
     }
 
 pub returns : goal.returns
@@ -25,10 +25,8 @@ returns g c =
     let s = g.S.Store in
     record {
       done = record {
-        tells = c.set.ensures.done.tells ∙ sym (answer_unmasked (s.depth store) (s.closed store) (closed_by mask.runs mask.count) (s.limit store) (s.cell store) c.args.index c.args.value (sym c.if-closes.ensures));
+        tells = c.set.ensures.done.tells ∙ sym (answer_unmasked (s.shape store) (closed_by mask) (s.cell store) c.args.index c.args.value (sym c.if-closes.ensures));
         leaves = c.set.ensures.done.leaves;
       };
-      depth = c.set.ensures.depth;
-      closed = ap (λ closed k. closed k || closed_by mask.runs mask.count k) c.set.ensures.closed;
-      limit = c.set.ensures.limit;
+      shape = ap (λ shape. masked_shape shape (closed_by mask)) c.set.ensures.shape;
     }
