@@ -5,7 +5,7 @@
 mod tests {
     use std::process::Abort;
     use std::test::Fail;
-    use tracing::trace;
+    use tracing::{Ray, trace};
     use voxels::{Position, Voxel};
 
     const MISS: u16 = 1;
@@ -31,6 +31,13 @@ mod tests {
         }
     }
 
+    fn ray(origin: (u16, u16, u16), end: (u16, u16, u16)) -> Ray {
+        Ray {
+            origin: position(origin),
+            end: position(end),
+        }
+    }
+
     // How many words say that a voxel was passed, and the sum of their indices.
     fn missed(page: &[u16]) -> (usize, usize) {
         let mut count = 0;
@@ -47,12 +54,7 @@ mod tests {
     // Just the voxels that the line passes are marked.
     fn check_line(rt: &impl Abort, line: Line) -> Result<(), Fail> {
         let mut page = [0; 512];
-        let steps = trace(
-            &mut page,
-            line.depth,
-            position(line.origin),
-            position(line.end),
-        );
+        let steps = trace(&mut page, line.depth, ray(line.origin, line.end));
         assert_eq!(rt; steps, line.passed.len());
         assert_eq!(rt; missed(&page).0, line.passed.len());
         for at in line.passed {
@@ -327,7 +329,7 @@ mod tests {
         ];
         for (origin, end, steps, sum) in lines {
             let mut page = [0; MOST];
-            assert_eq!(rt; trace(&mut page, 5, position(origin), position(end)), steps);
+            assert_eq!(rt; trace(&mut page, 5, ray(origin, end)), steps);
             let (count, found) = missed(&page);
             assert_eq!(rt; count, steps);
             assert_eq!(rt; found, sum);
@@ -337,10 +339,7 @@ mod tests {
     #[test]
     fn hits_stay(rt: HostRuntime) {
         let mut page = [HIT, 0, 0, HIT, 0, 0, 0, 0];
-        assert_eq!(rt;
-            trace(&mut page, 1, position((32, 32, 32)), position((96, 96, 32))),
-            2
-        );
+        assert_eq!(rt; trace(&mut page, 1, ray((32, 32, 32), (96, 96, 32))), 2);
         assert!(rt; page == [HIT, MISS, 0, HIT, 0, 0, 0, 0]);
     }
 
@@ -356,10 +355,7 @@ mod tests {
         ];
         for (depth, origin, end, words) in lines {
             let mut page = [0; 8];
-            assert_eq!(rt;
-                trace(&mut page[..words], depth, position(origin), position(end)),
-                0
-            );
+            assert_eq!(rt; trace(&mut page[..words], depth, ray(origin, end)), 0);
             assert!(rt; page == [0; 8]);
         }
     }

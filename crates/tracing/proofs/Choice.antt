@@ -1,53 +1,45 @@
 -- A step of the walk: the axis that it takes is that of the first crossing left, and the walk stays what its crossings say.
 use Rattle.std.proofs.Common.{◌≡◌, ℕ, suc, ◌+◌, ◌-◌, ◌*◌, ◌^◌, ◌<◌, ◌≤◌, Bool, true, false, cond, refl, ⊎_elim, arith, lit<}
-use Rattle.std.proofs.lemmas.Bool.{cases_eq, cases_lt, ltb-false}
+use Rattle.std.proofs.lemmas.Bool.{cases_eq, ltb-false, ltb-true}
 use Rattle.std.proofs.lemmas.Bool.Decides.{nat_tests}
 use Rattle.voxels.specs.declared.space.Position.{Position}
-use Rattle.tracing.specs.declared.walks.AxisName.{AxisName}
-use Rattle.tracing.specs.declared.walks.AxisName.TheVariants.{X, Y, Z}
-use Rattle.tracing.specs.Lines.{tick, goes_up, crossings, reach, span, before, along}
-use Rattle.tracing.specs.Walks.{axis_at, walk_at, crossed, Crossable, leads, next_of, axis_of, crossed_on}
-use Rattle.tracing.proofs.Order.{fraction_order, reach_is, reach_more, span_above, not_itself, not_before, not_before_since, First, bump}
+use Rattle.voxels.specs.declared.space.Axis.{Axis}
+use Rattle.voxels.specs.declared.space.Axis.TheVariants.{X, Y, Z}
+use Rattle.tracing.specs.Lines.{tick, crossings, reach, span, before}
+use Rattle.tracing.specs.Walks.{AxisHasRoom, HasRoom, axis_at, crossed, crossed_on, crossings_left, leads, next_of, walk_at}
+use Rattle.tracing.proofs.Order.{fraction_order, reach_more, span_above, not_itself, not_before, not_before_since, First, bump}
 
-abbrev pub number : AxisName → ℕ
+abbrev pub number : Axis → ℕ
 number X = 0
 number Y = 1
 number Z = 2
 
 module _ (o p : Position) where
-  pub crossed_is : (a n : ℕ) → n < crossings o p a → crossed (axis_at o p a n) ≡ axis_at o p a (n + 1)
-  crossed_is a n h =
-      let reaches = reach_more o p a n h in
-      let left : crossings o p a - n - 1 ≡ crossings o p a - (n + 1) = omega arith in
-      let coordinate : cond (goes_up o p a) (along o p a n + 1) (along o p a n - 1) ≡ along o p a (n + 1) = grind (arith, nat_tests) in
-      cc
+  crossed_is : (a n : ℕ) → n < crossings o p a → crossed (axis_at o p a n) ≡ axis_at o p a (n + 1)
+  crossed_is a n h = grind (arith, nat_tests, reach_more o p a n h)
 
-  pub crossed_on_lem : (n : ℕ → ℕ) (d : AxisName) → n (number d) < crossings o p (number d) → crossed_on (walk_at o p n) d ≡ walk_at o p (bump (number d) n)
+  pub crossed_on_lem : (n : ℕ → ℕ) (d : Axis) → n (number d) < crossings o p (number d) → crossed_on (walk_at o p n) d ≡ walk_at o p (bump (number d) n)
   crossed_on_lem n X h = let here = crossed_is 0 (n 0) h in cc
   crossed_on_lem n Y h = let here = crossed_is 1 (n 1) h in cc
   crossed_on_lem n Z h = let here = crossed_is 2 (n 2) h in cc
 
-  axis_named : (n : ℕ → ℕ) (d : AxisName) → axis_of (walk_at o p n) d ≡ axis_at o p (number d) (n (number d))
-  axis_named n X = refl
-  axis_named n Y = refl
-  axis_named n Z = refl
-
-  crossable_at : (a n : ℕ) → n < crossings o p a → tick a o < 2048 → tick a p < 2048 → Crossable (axis_at o p a n)
-  crossable_at a n h small small' = record {
-    some_left = omega arith;
-    reach_fits = omega (arith, reach_is o p a n (omega arith), first);
-    coordinate_fits = coordinate;
-    coordinate_down = λ e. down e;
+  axis_room : (a : ℕ) → tick a o < 2048 → tick a p < 2048 → AxisHasRoom (axis_at o p a 0)
+  axis_room a small small' = record {
+    reach_fits = reach_fits;
+    coordinate_fits = λ e. let up = ltb-true (tick a o) (tick a p) e in simp e (omega arith);
+    coordinate_down = λ e. let down = ltb-false (tick a o) (tick a p) e in simp e (omega arith);
   }
     where
-      first : reach o p a 0 ≤ 64
-      first = grind (arith, nat_tests)
+      reach_fits : reach o p a 0 + 64 * (crossings o p a - 0) < 2 ^ 16
+      reach_fits = grind (arith, nat_tests)
 
-      coordinate : along o p a n + 1 < 2 ^ 16
-      coordinate = grind (arith, nat_tests)
-
-      down : goes_up o p a ≡ false → 0 < along o p a n
-      down e = let order = ltb-false (tick a o) (tick a p) e in simp e (omega arith)
+  -- a line between positions of a map can be walked
+  pub room : ((a : ℕ) → tick a o < 2048) → ((a : ℕ) → tick a p < 2048) → HasRoom (walk_at o p (λ _. 0))
+  room small small' = record {
+    x = axis_room 0 (small 0) (small' 0);
+    y = axis_room 1 (small 1) (small' 1);
+    z = axis_room 2 (small 2) (small' 2);
+  }
 
   -- of the crossings that come next on the axes below m, that of s is the first, where there is one
   FirstOf : (ℕ → ℕ) → ℕ → ℕ → Type 0
@@ -62,25 +54,18 @@ module _ (o p : Position) where
 
   leads_true : (n : ℕ → ℕ) (a b : ℕ) → leads_over n a b ≡ true → n b < crossings o p b → (n a < crossings o p a) × (reach o p a (n a) * span o p b ≤ reach o p b (n b) * span o p a)
   unfolding leads_over
-  leads_true n a b h left =
-      let one : 0 < crossings o p a - n a = grind (arith, nat_tests) in
-      (omega arith, grind (arith, nat_tests))
+  leads_true n a b h left = (grind (arith, nat_tests), grind (arith, nat_tests))
 
   leads_false : (n : ℕ → ℕ) (a b : ℕ) → leads_over n a b ≡ false → (n b < crossings o p b) × (n a < crossings o p a → reach o p b (n b) * span o p a < reach o p a (n a) * span o p b)
   unfolding leads_over
-  leads_false n a b h =
-      let one : 0 < crossings o p b - n b = grind (arith, nat_tests) in
-      (omega arith, λ left. let own : 0 < crossings o p a - n a = omega arith in grind (arith, nat_tests))
+  leads_false n a b h = (grind (arith, nat_tests), λ left. grind (arith, nat_tests))
 
   first_stays : (n : ℕ → ℕ) (m s : ℕ) → FirstOf n m s → leads_over n s m ≡ true → FirstOf n (suc m) s
   unfolding FirstOf
-  first_stays n m s first h = (omega (arith, first.0), λ b below left. ⊎_elim (λ (e : b ≡ m). last b e left) (λ (e : b ≡ m → ⊥). first.1 b (omega arith) left) (cases_eq b m))
+  first_stays n m s first h = (omega (arith, first.0), stays)
     where
-      last : (b : ℕ) → b ≡ m → n b < crossings o p b → (n s < crossings o p s) × (before o p b (n b) s (n s) ≡ false)
-      last b e left =
-          let new : n m < crossings o p m = rw e at left in
-          let lead = leads_true n s m h new in
-          (lead.0, rw e (not_before o p m (n m) s (n s) lead.1 (λ _. omega (arith, first.0))))
+      stays : (b : ℕ) → b < suc m → n b < crossings o p b → (n s < crossings o p s) × (before o p b (n b) s (n s) ≡ false)
+      stays b below left = (grind (arith, nat_tests, first.1 b, leads_true n s m h, cases_eq b m), grind (arith, nat_tests, first.0, first.1 b, leads_true n s m h, not_before o p m (n m) s (n s), cases_eq b m))
 
   first_moves : (n : ℕ → ℕ) (m s : ℕ) → FirstOf n m s → leads_over n s m ≡ false → FirstOf n (suc m) m
   unfolding FirstOf
@@ -107,7 +92,7 @@ module _ (o p : Position) where
       by_leads false xz false exy exz eyz = first_moves n 2 1 (first_moves n 1 0 (first_one n) exy) eyz
 
   -- while crossings are left, the walk takes the first of them
-  pub first_next : (n : ℕ → ℕ) → n 0 + n 1 + n 2 < crossings o p 0 + crossings o p 1 + crossings o p 2 → First o p n (number (next_of (walk_at o p n)))
+  pub first_next : (n : ℕ → ℕ) → 0 < crossings_left (walk_at o p n) → First o p n (number (next_of (walk_at o p n)))
   unfolding FirstOf
   first_next n h = record { axis = all.0; some_left = some_left; none_before = λ b axis left. (all.1 b axis left).1 }
     where
@@ -118,14 +103,4 @@ module _ (o p : Position) where
       all = first_of_all n
 
       some_left : n s < crossings o p s
-      some_left = ⊎_elim
-          (λ (l : n 0 < crossings o p 0). (all.1 0 (lit< tt) l).0)
-          (λ (g : crossings o p 0 ≤ n 0).
-          ⊎_elim
-          (λ (l : n 1 < crossings o p 1). (all.1 1 (lit< tt) l).0)
-          (λ (g' : crossings o p 1 ≤ n 1). (all.1 2 (lit< tt) (omega arith)).0)
-          (cases_lt (n 1) (crossings o p 1)))
-          (cases_lt (n 0) (crossings o p 0))
-
-  pub crossable : (n : ℕ → ℕ) (d : AxisName) → n (number d) < crossings o p (number d) → tick (number d) o < 2048 → tick (number d) p < 2048 → Crossable (axis_of (walk_at o p n) d)
-  crossable n d h small small' = rw (axis_named n d) (crossable_at (number d) (n (number d)) h small small')
+      some_left = grind (arith, nat_tests)

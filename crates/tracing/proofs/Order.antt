@@ -1,10 +1,10 @@
 -- The order of a line's crossings.
 use Rattle.std.proofs.Common.{◌≡◌, ℕ, zero, suc, ◌+◌, ◌*◌, ◌<◌, ◌≤◌, Bool, true, false, cond, eqb, sym, ⊎_elim, mul-le-mul_right, lt_of_mul-lt-mul_right, mul-lt-mul_of_pos_right, mul_right_comm, arith}
-use Rattle.std.proofs.lemmas.Bool.{cases_eq, cases_lt, cases_Bool, ltb-true, ltb-false}
+use Rattle.std.proofs.lemmas.Bool.{cases_eq, cases_lt}
 use Rattle.std.proofs.lemmas.Bool.Decides.{nat_tests}
 use Rattle.voxels.specs.Bounded.{sum, count}
 use Rattle.voxels.specs.declared.space.Position.{Position}
-use Rattle.tracing.specs.Lines.{tick, goes_up, crossings, reach, span, before, earlier}
+use Rattle.tracing.specs.Lines.{crossings, reach, span, before, earlier}
 
 -- how many numbers below n have q, where just those below m do
 pub count_cut : (n m : ℕ) (q : ℕ → Bool) → m ≤ n → ((k : ℕ) → k < m → q k ≡ true) → ((k : ℕ) → m ≤ k → k < n → q k ≡ false) → count n q ≡ m
@@ -12,14 +12,8 @@ unfolding count sum
 count_cut zero m q h below above = omega arith
 count_cut (suc n) m q h below above =
     ⊎_elim
-    (λ (whole : m ≡ suc n).
-    let rest = count_cut n n q (omega arith) (λ k l. below k (omega arith)) (λ k l r. absurd (omega arith)) in
-    let here = below n (omega arith) in
-    rw here (omega (arith, rest)))
-    (λ (part : m ≡ suc n → ⊥).
-    let rest = count_cut n m q (omega arith) below (λ k l r. above k l (omega arith)) in
-    let here = above n (omega arith) (omega arith) in
-    rw here (omega (arith, rest)))
+    (λ (whole : m ≡ suc n). grind (arith, nat_tests, count_cut n n q (omega arith) (λ k l. below k (omega arith)) (λ k l r. absurd (omega arith)), below n (omega arith)))
+    (λ (part : m ≡ suc n → ⊥). grind (arith, nat_tests, count_cut n m q (omega arith) below (λ k l r. above k l (omega arith)), above n (omega arith) (omega arith)))
     (cases_eq m (suc n))
 
 -- fractions in order, by their products: a / x < b / y ≤ c / z
@@ -35,15 +29,11 @@ abbrev pub bump : ℕ → (ℕ → ℕ) → ℕ → ℕ
 bump s n a = cond (eqb a s) (n a + 1) (n a)
 
 module _ (o p : Position) where
-  pub reach_is : (a j : ℕ) → j ≤ crossings o p a → reach o p a j ≡ reach o p a 0 + 64 * j
-  reach_is a j h =
-      ⊎_elim
-      (λ e. let up = ltb-true (tick a o) (tick a p) e in simp e (omega arith))
-      (λ e. let down = ltb-false (tick a o) (tick a p) e in simp e (omega arith))
-      (cases_Bool (goes_up o p a))
+  reach_is : (a j : ℕ) → j ≤ crossings o p a → reach o p a j ≡ reach o p a 0 + 64 * j
+  reach_is a j h = grind (arith, nat_tests)
 
   pub reach_more : (a j : ℕ) → j < crossings o p a → reach o p a (j + 1) ≡ reach o p a j + 64
-  reach_more a j h = omega (arith, reach_is a j (omega arith), reach_is a (j + 1) (omega arith))
+  reach_more a j h = grind (arith, nat_tests)
 
   -- an axis with a crossing has a length
   pub span_above : (a j : ℕ) → j < crossings o p a → 0 < span o p a
@@ -59,11 +49,7 @@ module _ (o p : Position) where
 
   pub not_before : (a j b k : ℕ) → reach o p b k * span o p a ≤ reach o p a j * span o p b → (reach o p a j * span o p b ≡ reach o p b k * span o p a → b ≤ a) → before o p a j b k ≡ false
   unfolding before
-  not_before a j b k later tie =
-      ⊎_elim
-      (λ (e : reach o p a j * span o p b ≡ reach o p b k * span o p a). let order = tie e in grind (arith, nat_tests))
-      (λ (e : reach o p a j * span o p b ≡ reach o p b k * span o p a → ⊥). grind (arith, nat_tests))
-      (cases_eq (reach o p a j * span o p b) (reach o p b k * span o p a))
+  not_before a j b k later tie = grind (arith, nat_tests)
 
   pub not_before_since : (a j b k : ℕ) → before o p a j b k ≡ false → reach o p b k * span o p a ≤ reach o p a j * span o p b
   unfolding before
@@ -116,32 +102,22 @@ module _ (o p : Position) where
   progress_none = record { within = λ a. omega arith; sooner = λ a j b k h. absurd (omega arith) }
 
   pub progress_more : (n : ℕ → ℕ) (s : ℕ) → Progress n → First n s → Progress (bump s n)
-  progress_more n s progress first = record {
-    within = λ a. within a;
-    sooner = λ a j b k h axis past left. sooner a j b k h axis past left;
-  }
+  progress_more n s progress first = record { within = within; sooner = sooner }
     where
       within : (a : ℕ) → bump s n a ≤ crossings o p a
-      within a =
-          ⊎_elim
-          (λ (e : a ≡ s). let left : n a < crossings o p a = rw e first.some_left in grind (arith, nat_tests))
-          (λ (e : a ≡ s → ⊥). let old = progress.within a in grind (arith, nat_tests))
-          (cases_eq a s)
+      within a = grind (arith, nat_tests, progress.within a, first.some_left, cases_eq a s)
 
       after : (b k : ℕ) → b < 3 → bump s n b ≤ k → k < crossings o p b → before o p s (n s) b k ≡ true
       after b k axis past left =
           ⊎_elim
-          (λ (e : b ≡ s).
-          let more : n b < k = grind (arith, nat_tests) in
-          rw (sym e) (own_order b (n b) k more left))
-          (λ (e : b ≡ s → ⊥). let old : n b ≤ k = grind (arith, nat_tests) in one_before b k s (n s) e (none_sooner n s first b k axis old left))
+          (λ (e : b ≡ s). rw (sym e) (own_order b (n b) k (grind (arith, nat_tests)) left))
+          (λ (e : b ≡ s → ⊥). one_before b k s (n s) e (none_sooner n s first b k axis (grind (arith, nat_tests)) left))
           (cases_eq b s)
 
       sooner : (a j b k : ℕ) → j < bump s n a → b < 3 → bump s n b ≤ k → k < crossings o p b → before o p a j b k ≡ true
       sooner a j b k h axis past left =
-          let old : n b ≤ k = grind (arith, nat_tests) in
           ⊎_elim
-          (λ (l : j < n a). progress.sooner a j b k l axis old left)
+          (λ (l : j < n a). progress.sooner a j b k l axis (grind (arith, nat_tests)) left)
           (λ (l : n a ≤ j).
           let same : a ≡ s = grind (arith, nat_tests) in
           let last : j ≡ n a = grind (arith, nat_tests) in

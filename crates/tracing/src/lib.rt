@@ -18,31 +18,39 @@ pub const MISS_MARK: u16 = 1;
 // The mark of a voxel that a line ends in.
 pub const HIT_MARK: u16 = 2;
 
-// Marks the voxels that the line from `origin` to `end` passes, all but the end voxel's; a voxel that was hit stays so. Returns the steps of the walk.
+// A line of sight, from the range head to where it ends.
+#[derive(Clone, Copy)]
+pub struct Ray {
+    pub origin: Position,
+    pub end: Position,
+}
+
+// Marks the voxels that the line passes, all but the end voxel's; a voxel that was hit stays so. Returns the steps of the walk.
 // Where an end lies outside the map, or the page has too few words, the page is left and 0 returned.
-pub fn trace(page: &mut [u16], depth: u8, origin: Position, end: Position) -> usize
-    ensures marks { (i : ℕ) → slice_index page.new i ≡ traced_word depth origin end page.old i }
-    ensures steps { result ≡ (if traceable depth origin end page.old then crossings origin end 0 + crossings origin end 1 + crossings origin end 2 else 0) }
-    ensures inside { traceable depth origin end page.old ≡ true → (v : Voxel) → passes origin end v ≡ true → in_map depth v ≡ true }
-    ensures end { passes origin end (voxel_of end) ≡ false }
+pub fn trace(page: &mut [u16], depth: u8, ray: Ray) -> usize
+    ensures marks { (i : ℕ) → slice_index page.new i ≡ traced_word depth ray.origin ray.end page.old i }
+    ensures steps { result ≡ (if traceable depth ray.origin ray.end page.old then crossings ray.origin ray.end 0 + crossings ray.origin ray.end 1 + crossings ray.origin ray.end 2 else 0) }
+    ensures inside { traceable depth ray.origin ray.end page.old ≡ true → (v : Voxel) → passes ray.origin ray.end v ≡ true → in_map depth v ≡ true }
+    ensures end { passes ray.origin ray.end (voxel_of ray.end) ≡ false }
 {
-    if !is_traceable(page, depth, origin, end) {
+    if !is_traceable(page, depth, ray) {
         return 0;
     }
-    let mut walk = Walk::new(origin, end);
+    let walk = Walk::new(ray);
     let crossings = walk.left();
-    for _step in 0..crossings {
-        mark_passed(page, depth, walk.voxel());
-        walk = walk.step();
+    for voxel in walk {
+        mark_passed(page, depth, voxel);
     }
     crossings
 }
 
 // Whether both ends lie in the map and the page has a word for each voxel.
-fn is_traceable(page: &[u16], depth: u8, origin: Position, end: Position) -> bool
-    ensures { result ≡ traceable depth origin end page.now }
+fn is_traceable(page: &[u16], depth: u8, ray: Ray) -> bool
+    ensures { result ≡ traceable depth ray.origin ray.end page.now }
 {
-    in_map(depth, origin.voxel()) && in_map(depth, end.voxel()) && voxel_count(depth) <= page.len()
+    in_map(depth, ray.origin.voxel())
+        && in_map(depth, ray.end.voxel())
+        && voxel_count(depth) <= page.len()
 }
 
 fn in_map(depth: u8, voxel: Voxel) -> bool
@@ -56,10 +64,10 @@ fn mark_passed(page: &mut [u16], depth: u8, voxel: Voxel)
     requires { voxel_count depth ≤ length page.old }
     ensures { (i : ℕ) → slice_index page.new i ≡ marked_word depth voxel page.old i }
 {
-    if let Some(index) = voxel.index(depth) {
-        if page[index] != HIT_MARK {
-            page[index] = MISS_MARK;
-        }
+    if let Some(index) = voxel.index(depth)
+        && page[index] != HIT_MARK
+    {
+        page[index] = MISS_MARK;
     }
 }
 
@@ -67,9 +75,9 @@ fn mark_passed(page: &mut [u16], depth: u8, voxel: Voxel)
 pub fn mark_end(page: &mut [u16], depth: u8, end: Position)
     ensures { (i : ℕ) → slice_index page.new i ≡ ended_word depth end page.old i }
 {
-    if voxel_count(depth) <= page.len() {
-        if let Some(index) = end.voxel().index(depth) {
-            page[index] = HIT_MARK;
-        }
+    if voxel_count(depth) <= page.len()
+        && let Some(index) = end.voxel().index(depth)
+    {
+        page[index] = HIT_MARK;
     }
 }

@@ -1,21 +1,16 @@
-ghost use Rattle.std.specs.Prelude.{◌≡◌, ◌+◌};
-ghost use Rattle.tracing.specs.Walks.{Crossable, axis_at, axis_of, crossed, crossed_on, leads, next_of, current_voxel, walk_at};
+ghost use Rattle.std.specs.Iterator.{at_most};
+ghost use Rattle.std.specs.Prelude.{◌≡◌, ◌<◌};
+ghost use Rattle.tracing.specs.Walks.{AxisHasRoom, HasRoom, StepsOn, axis_at, crossed, crossings_left, current_voxel, leads, next_of, walk_at};
 
-use voxels::{Position, Voxel};
+use crate::Ray;
+use voxels::{Axis, Voxel};
 
 // Ticks along the edge of a voxel.
 const TICKS: u16 = 64;
 
+// A walk along one axis: the coordinate that it has come to, the crossings that are left, and the next of them, which comes at the fraction reach / span of the line.
 #[derive(Clone, Copy)]
-pub enum AxisName {
-    X,
-    Y,
-    Z,
-}
-
-// An axis of a walk: the coordinate that it has come to, the crossings that are left, and the next of them, which comes at the fraction reach / span of the line.
-#[derive(Clone, Copy)]
-pub struct Axis {
+pub struct AxisWalk {
     pub up: bool,
     pub coordinate: u16,
     pub left: u16,
@@ -23,22 +18,22 @@ pub struct Axis {
     pub span: u16,
 }
 
-// A walk along a line from voxel to voxel, after Amanatides and Woo (1987), in whole numbers.
-#[derive(Clone, Copy)]
+// A walk along a line from voxel to voxel, after Amanatides and Woo (1987), in whole numbers. Its items are the voxels that the line passes.
+#[derive(Drop)]
 pub struct Walk {
-    pub x: Axis,
-    pub y: Axis,
-    pub z: Axis,
+    pub x: AxisWalk,
+    pub y: AxisWalk,
+    pub z: AxisWalk,
 }
 
-impl Axis {
+impl AxisWalk {
     // At the start of a line from one tick to another. All axes are alike; the contract speaks of x.
-    fn new(from: u16, to: u16) -> Axis
+    fn new(from: u16, to: u16) -> AxisWalk
         ensures { result ≡ axis_at (record { x = from; y = 0; z = 0 }) (record { x = to; y = 0; z = 0 }) 0 0 }
     {
         let up = from < to;
         let past = from % TICKS;
-        Axis {
+        AxisWalk {
             up,
             coordinate: from / TICKS,
             left: (from / TICKS).abs_diff(to / TICKS),
@@ -48,7 +43,7 @@ impl Axis {
     }
 
     // Whether the next crossing comes no later than the other axis's. The fractions are compared by products.
-    fn leads(self, other: Axis) -> bool
+    fn leads(self, other: AxisWalk) -> bool
         ensures { result ≡ leads self other }
     {
         let own = u32::from(self.reach) * u32::from(other.span);
@@ -57,45 +52,47 @@ impl Axis {
     }
 
     // Over the next plane.
-    fn cross(self) -> Axis
-        requires { Crossable self }
-        ensures { result ≡ crossed self }
+    fn cross(&mut self)
+        requires some_left { 0 < self.old.left }
+        requires room { AxisHasRoom self.old }
+        ensures value { self.new ≡ crossed self.old }
+        ensures room { AxisHasRoom self.new }
     {
-        Axis {
-            up: self.up,
-            coordinate: if self.up {
-                self.coordinate + 1
-            } else {
-                self.coordinate - 1
-            },
-            left: self.left - 1,
-            reach: self.reach + TICKS,
-            span: self.span,
+        if self.up {
+            self.coordinate += 1;
+        } else {
+            self.coordinate -= 1;
         }
+        self.left -= 1;
+        self.reach += TICKS;
     }
 }
 
 impl Walk {
-    pub fn new(origin: Position, end: Position) -> Walk
-        ensures { result ≡ walk_at origin end (λ _. 0) }
+    pub fn new(ray: Ray) -> Walk
+        ensures { result ≡ walk_at ray.origin ray.end (λ _. 0) }
     {
+        let Ray { origin, end } = ray;
         Walk {
-            x: Axis::new(origin.x, end.x),
-            y: Axis::new(origin.y, end.y),
-            z: Axis::new(origin.z, end.z),
+            x: AxisWalk::new(origin.x, end.x),
+            y: AxisWalk::new(origin.y, end.y),
+            z: AxisWalk::new(origin.z, end.z),
         }
     }
 
     // Crossings that are left, on all axes.
-    pub fn left(self) -> usize
-        ensures { result ≡ self.x.left + self.y.left + self.z.left }
+    pub fn left(&self) -> usize
+        ensures { result ≡ crossings_left self.now }
     {
-        usize::from(self.x.left) + usize::from(self.y.left) + usize::from(self.z.left)
+        let x = usize::from(self.x.left);
+        let y = usize::from(self.y.left);
+        let z = usize::from(self.z.left);
+        x + y + z
     }
 
     // The voxel that the walk is in.
-    pub fn voxel(self) -> Voxel
-        ensures { result ≡ current_voxel self }
+    fn voxel(&self) -> Voxel
+        ensures { result ≡ current_voxel self.now }
     {
         Voxel {
             x: self.x.coordinate,
@@ -105,40 +102,43 @@ impl Walk {
     }
 
     // The axis of the next crossing; of crossings at one point x comes first, then y, then z.
-    fn next(self) -> AxisName
-        ensures { result ≡ next_of self }
+    fn next_axis(&self) -> Axis
+        ensures { result ≡ next_of self.now }
     {
         if self.x.leads(self.y) {
             if self.x.leads(self.z) {
-                AxisName::X
+                Axis::X
             } else {
-                AxisName::Z
+                Axis::Z
             }
         } else if self.y.leads(self.z) {
-            AxisName::Y
+            Axis::Y
         } else {
-            AxisName::Z
+            Axis::Z
         }
     }
+}
 
-    // Into the next voxel.
-    pub fn step(self) -> Walk
-        requires { Crossable (axis_of self (next_of self)) }
-        ensures { result ≡ crossed_on self (next_of self) }
-    {
-        match self.next() {
-            AxisName::X => Walk {
-                x: self.x.cross(),
-                ..self
-            },
-            AxisName::Y => Walk {
-                y: self.y.cross(),
-                ..self
-            },
-            AxisName::Z => Walk {
-                z: self.z.cross(),
-                ..self
-            },
+impl Iterator for Walk {
+    type Item = Voxel;
+
+    ghost can_next = { HasRoom };
+
+    ghost next_gives = { StepsOn };
+
+    ghost remaining = { λ walk. at_most (crossings_left walk) };
+
+    // The voxel that the next crossing leaves.
+    fn next(&mut self) -> Option<Voxel> {
+        if self.left() == 0 {
+            return None;
         }
+        let voxel = self.voxel();
+        match self.next_axis() {
+            Axis::X => self.x.cross(),
+            Axis::Y => self.y.cross(),
+            Axis::Z => self.z.cross(),
+        }
+        Some(voxel)
     }
 }
