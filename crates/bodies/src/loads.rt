@@ -19,14 +19,12 @@ pub struct Loaded {
 
 // Loads a body into the empty map of a store, by way of a lent page. A refused load changes no cell.
 pub fn load<S: Store>(store: &mut S, page: &mut [u16], body: &[u8]) -> Result<Loaded, Refusal>
-    ensures answer { told_load result ≡ load_answer (S.depth store.old) (S.closed store.old) (S.limit store.old) (S.cell store.old) (length page.old) body.now }
-    ensures cells { (i : ℕ) → S.cell store.new i ≡ load_cells (S.depth store.old) (S.closed store.old) (S.limit store.old) (S.cell store.old) (told_load result) body.now i }
-    ensures page { page.new ≡ wiped (guarded (S.depth store.old) page.old) page.old }
-    ensures exact { MalformedExactly (S.depth store.old) (S.cell store.old) (length page.old) body.now (told_load result) }
-    ensures same { WritesSame (S.depth store.old) (S.cell store.new) body.now (told_load result) }
-    ensures depth { S.depth store.new ≡ S.depth store.old }
-    ensures closed { S.closed store.new ≡ S.closed store.old }
-    ensures limit { S.limit store.new ≡ S.limit store.old }
+    ensures answer { told_load result ≡ load_answer (S.shape store.old) (S.cell store.old) (length page.old) body.now }
+    ensures cells { (i : ℕ) → S.cell store.new i ≡ load_cells (S.shape store.old) (S.cell store.old) (told_load result) body.now i }
+    ensures page { page.new ≡ wiped (guarded (S.shape store.old).depth page.old) page.old }
+    ensures exact { MalformedExactly (S.shape store.old).depth (S.cell store.old) (length page.old) body.now (told_load result) }
+    ensures same { WritesSame (S.shape store.old).depth (S.cell store.new) body.now (told_load result) }
+    ensures shape { S.shape store.new ≡ S.shape store.old }
 {
     let depth = store.depth();
     if let Err(refusal) = check_page(depth, page.len()) {
@@ -39,14 +37,12 @@ pub fn load<S: Store>(store: &mut S, page: &mut [u16], body: &[u8]) -> Result<Lo
 // The load itself, over words that somebody else wipes.
 fn load_over<S: Store>(store: &mut S, words: &mut [u16], body: &[u8]) -> Result<Loaded, Refusal>
     requires some { 1 ≤ S.depth store.old }
-    requires long { voxel_count (S.depth store.old) ≤ length words.old }
-    ensures answer { told_load result ≡ body_answer (S.depth store.old) (S.closed store.old) (S.limit store.old) (S.cell store.old) body.now }
-    ensures cells { (i : ℕ) → S.cell store.new i ≡ load_cells (S.depth store.old) (S.closed store.old) (S.limit store.old) (S.cell store.old) (told_load result) body.now i }
-    ensures same { WritesSame (S.depth store.old) (S.cell store.new) body.now (told_load result) }
-    ensures rest { (k : ℕ) → voxel_count (S.depth store.old) ≤ k → slice_index words.new k ≡ slice_index words.old k }
-    ensures depth { S.depth store.new ≡ S.depth store.old }
-    ensures closed { S.closed store.new ≡ S.closed store.old }
-    ensures limit { S.limit store.new ≡ S.limit store.old }
+    requires long { voxel_count (S.shape store.old).depth ≤ length words.old }
+    ensures answer { told_load result ≡ body_answer (S.shape store.old) (S.cell store.old) body.now }
+    ensures cells { (i : ℕ) → S.cell store.new i ≡ load_cells (S.shape store.old) (S.cell store.old) (told_load result) body.now i }
+    ensures same { WritesSame (S.shape store.old).depth (S.cell store.new) body.now (told_load result) }
+    ensures rest { (k : ℕ) → voxel_count (S.shape store.old).depth ≤ k → slice_index words.new k ≡ slice_index words.old k }
+    ensures shape { S.shape store.new ≡ S.shape store.old }
 {
     if any_known(store) {
         return Err(Refusal {
@@ -86,7 +82,7 @@ fn cell_of(word: u16) -> Option<Cell>
 }
 
 fn any_known<S: Store>(store: &S) -> bool
-    ensures { result ≡ some (voxel_count (S.depth store.now)) (λ i. is_known (S.cell store.now i)) }
+    ensures { result ≡ some (voxel_count (S.shape store.now).depth) (λ i. is_known (S.cell store.now i)) }
 {
     for index in 0..voxel_count(store.depth()) {
         if let Cell::Known(_) = store.read(index) {
@@ -98,10 +94,8 @@ fn any_known<S: Store>(store: &S) -> bool
 
 // Sets an open voxel to what its word says, and skips a closed one.
 fn place_voxel<S: Store>(store: &mut S, index: usize, word: u16) -> Result<Placed, Refusal>
-    ensures done { PlaceDone (S.depth store.old) (S.closed store.old) (S.limit store.old) (S.cell store.old) (S.cell store.new) index (word_cell word) result }
-    ensures depth { S.depth store.new ≡ S.depth store.old }
-    ensures closed { S.closed store.new ≡ S.closed store.old }
-    ensures limit { S.limit store.new ≡ S.limit store.old }
+    ensures done { PlaceDone (S.shape store.old) (S.cell store.old) (S.cell store.new) index (word_cell word) result }
+    ensures shape { S.shape store.new ≡ S.shape store.old }
 {
     let Some(cell) = cell_of(word) else {
         return Ok(Placed::Nothing);
@@ -138,13 +132,11 @@ impl Loaded {
 // Sets every open voxel of an empty map to what its word says, in rising index, and skips closed ones. Where a set is refused a clear takes all back.
 fn place_states<S: Store>(store: &mut S, words: &[u16]) -> Result<Loaded, Refusal>
     requires some { 1 ≤ S.depth store.old }
-    requires long { voxel_count (S.depth store.old) ≤ length words.now }
+    requires long { voxel_count (S.shape store.old).depth ≤ length words.now }
     requires empty { (i : ℕ) → S.cell store.old i ≡ Unknown }
-    ensures answer { told_load result ≡ sweep_answer (S.depth store.old) (S.closed store.old) (S.limit store.old) (word_cells words.now) (S.cell store.old) }
-    ensures cells { (i : ℕ) → S.cell store.new i ≡ swept_cells (S.depth store.old) (S.closed store.old) (S.limit store.old) (word_cells words.now) (S.cell store.old) (told_load result) i }
-    ensures depth { S.depth store.new ≡ S.depth store.old }
-    ensures closed { S.closed store.new ≡ S.closed store.old }
-    ensures limit { S.limit store.new ≡ S.limit store.old }
+    ensures answer { told_load result ≡ sweep_answer (S.shape store.old).depth (S.closed store.old) (S.limit store.old) (word_cells words.now) (S.cell store.old) }
+    ensures cells { (i : ℕ) → S.cell store.new i ≡ swept_cells (S.shape store.old).depth (S.closed store.old) (S.limit store.old) (word_cells words.now) (S.cell store.old) (told_load result) i }
+    ensures shape { S.shape store.new ≡ S.shape store.old }
 {
     let mut loaded = Loaded { set: 0, skipped: 0 };
     for index in 0..voxel_count(store.depth()) {

@@ -15,11 +15,11 @@ use voxels::{Reason, Refusal, WorkPage, check_page, voxel_count};
 
 // Writes the body of a store's map to the front of the output, by way of a lent page, and gives its length. A refused write leaves the output.
 pub fn write<S: Store>(store: &S, page: &mut [u16], output: &mut [u8]) -> Result<usize, Refusal>
-    ensures answer { told result ≡ write_answer (S.depth store.now) (S.cell store.now) (length page.old) (length output.old) }
-    ensures bytes { output.new ≡ written (S.depth store.now) (S.cell store.now) output.old (told result) }
-    ensures page { page.new ≡ wiped (guarded (S.depth store.now) page.old) page.old }
-    ensures back { ReadsBack (S.depth store.now) (S.cell store.now) }
-    ensures only { OnlyStates (S.depth store.now) (S.cell store.now) }
+    ensures answer { told result ≡ write_answer (S.shape store.now).depth (S.cell store.now) (length page.old) (length output.old) }
+    ensures bytes { output.new ≡ written (S.shape store.now).depth (S.cell store.now) output.old (told result) }
+    ensures page { page.new ≡ wiped (guarded (S.shape store.now).depth page.old) page.old }
+    ensures back { ReadsBack (S.shape store.now).depth (S.cell store.now) }
+    ensures only { OnlyStates (S.shape store.now).depth (S.cell store.now) }
 {
     let depth = store.depth();
     if let Err(refusal) = check_page(depth, page.len()) {
@@ -32,10 +32,10 @@ pub fn write<S: Store>(store: &S, page: &mut [u16], output: &mut [u8]) -> Result
 // The write itself, over words that somebody else wipes.
 fn write_over<S: Store>(store: &S, words: &mut [u16], output: &mut [u8]) -> Result<usize, Refusal>
     requires some { 1 ≤ S.depth store.now }
-    requires long { voxel_count (S.depth store.now) ≤ length words.old }
-    ensures answer { told result ≡ room_answer (S.depth store.now) (S.cell store.now) (length output.old) }
-    ensures bytes { output.new ≡ written (S.depth store.now) (S.cell store.now) output.old (told result) }
-    ensures rest { (k : ℕ) → voxel_count (S.depth store.now) ≤ k → slice_index words.new k ≡ slice_index words.old k }
+    requires long { voxel_count (S.shape store.now).depth ≤ length words.old }
+    ensures answer { told result ≡ room_answer (S.shape store.now).depth (S.cell store.now) (length output.old) }
+    ensures bytes { output.new ≡ written (S.shape store.now).depth (S.cell store.now) output.old (told result) }
+    ensures rest { (k : ℕ) → voxel_count (S.shape store.now).depth ≤ k → slice_index words.new k ≡ slice_index words.old k }
 {
     let depth = store.depth();
     let count = voxel_count(depth);
@@ -54,9 +54,9 @@ fn write_over<S: Store>(store: &S, words: &mut [u16], output: &mut [u8]) -> Resu
 
 // Puts the code of each voxel's state into its word.
 fn keep_states<S: Store>(store: &S, words: &mut [u16])
-    requires long { voxel_count (S.depth store.now) ≤ length words.old }
-    ensures codes { (i : ℕ) → i < voxel_count (S.depth store.now) → slice_index words.new i ≡ state_code (state_of (S.cell store.now i)) }
-    ensures rest { (k : ℕ) → voxel_count (S.depth store.now) ≤ k → slice_index words.new k ≡ slice_index words.old k }
+    requires long { voxel_count (S.shape store.now).depth ≤ length words.old }
+    ensures codes { (i : ℕ) → i < voxel_count (S.shape store.now).depth → slice_index words.new i ≡ state_code (state_of (S.cell store.now i)) }
+    ensures rest { (k : ℕ) → voxel_count (S.shape store.now).depth ≤ k → slice_index words.new k ≡ slice_index words.old k }
 {
     for index in 0..voxel_count(store.depth()) {
         words[index] = state_code(store.read(index).state());

@@ -40,7 +40,7 @@ impl Lent {
 
     // The body of a store's map, which is written to the lent output.
     fn body<S: Store>(&mut self, store: &S) -> Result<&[u8], Refusal>
-        ensures { elim result [ Ok bytes ↦ IsBody (S.Store.depth store.now) (S.Store.cell store.now) (vec_len self.old.page) (vec_len self.old.output) bytes.now | Err e ↦ IsRefusal (S.Store.depth store.now) (S.Store.cell store.now) (vec_len self.old.page) (vec_len self.old.output) e ] }
+        ensures { elim result [ Ok bytes ↦ IsBody (S.Store.shape store.now).depth (S.Store.cell store.now) (vec_len self.old.page) (vec_len self.old.output) bytes.now | Err e ↦ IsRefusal (S.Store.shape store.now).depth (S.Store.cell store.now) (vec_len self.old.page) (vec_len self.old.output) e ] }
     {
         let length = write(store, self.page.as_mut_slice(), self.output.as_mut_slice())?;
         Ok(&self.output.as_slice()[..length])
@@ -179,7 +179,7 @@ fn show_layer<S: Store>(rt: &HostRuntime, store: &S, z: u16) -> io::Result<()> {
 }
 
 fn row<S: Store>(heap: Global, store: &S, y: u16, z: u16) -> Result<String, AllocError>
-    ensures { IfOk result (λ s. string_bytes s ≡ row_of (S.Store.depth store.now) (S.Store.closed store.now) (S.Store.cell store.now) y z) }
+    ensures { IfOk result (λ s. string_bytes s ≡ row_of (S.Store.shape store.now) (S.Store.cell store.now) y z) }
 {
     let mut row = String::new(heap);
     for x in 0..side(store.depth()) {
@@ -190,7 +190,7 @@ fn row<S: Store>(heap: Global, store: &S, y: u16, z: u16) -> Result<String, Allo
 
 // What a map shows at a voxel. One outside the map is not open.
 fn symbol_at<S: Store>(store: &S, voxel: Voxel) -> char
-    ensures { result ≡ symbol_at (S.Store.depth store.now) (S.Store.closed store.now) (S.Store.cell store.now) voxel }
+    ensures { result ≡ symbol_at (S.Store.shape store.now) (S.Store.cell store.now) voxel }
 {
     match voxel.index(store.depth()) {
         Some(index) => symbol(store.open(index), store.read(index).state()),

@@ -4,8 +4,6 @@ pub mod Numbers
 pub mod Judging
 pub mod Reading
 pub mod Short
-pub mod Visiting
-pub mod Sweeping
 pub mod LineSets
 pub mod LineMarking
 pub mod LineReading

@@ -6,9 +6,11 @@ use Rattle.voxels.specs.Space.{voxel_at, voxel_count}
 use Rattle.voxels.specs.declared.cells.Cell.{Cell}
 use Rattle.voxels.specs.declared.cells.Event.TheVariants.{Hit, Miss}
 use Rattle.tracing.specs.Lines.{passes}
+use Rattle.stores.specs.Shapes.{Shape}
+use Rattle.stores.specs.Sweeps.{sweep_answer, swept}
 use Rattle.scans.specs.Alike.{Among, EachAmong, OrderFree, SameLines}
 use Rattle.scans.specs.Scans.{any_return, ends_in, scan_events, seen_by}
-use Rattle.scans.specs.Sweeps.{sweep_answer, swept}
+use Rattle.scans.specs.Sweeps.{wanted_by}
 use Rattle.scans.specs.Texts.{Return, ScanText}
 
 among_has : (p : Return → Bool) (r : Return) (rs : List Return) → Among r rs → p r ≡ true → any_return p rs ≡ true
@@ -45,7 +47,7 @@ same_events depth text other same i =
     ap₂ (λ (h p : Bool). cond h (Some Hit) (cond p (Some Miss) None)) hits lines
     ∙ ap (λ o. seen_by o other.returns v) same.origin
 
-pub order_free : (depth : ℕ) (closed : ℕ → Bool) (limit : ℕ) (cells : ℕ → Cell) (bytes : List ℕ) → OrderFree depth closed limit cells bytes
-order_free depth closed limit cells bytes others text other says says' same =
-    let events : scan_events depth text ≡ scan_events depth other = fun_ext (same_events depth text other same) in
-    (ap (λ e. sweep_answer depth closed limit e cells) events, λ i. ap (λ e. swept depth closed limit e cells (voxel_count depth) i) events)
+pub order_free : (shape : Shape) (cells : ℕ → Cell) (bytes : List ℕ) → OrderFree shape cells bytes
+order_free shape cells bytes others text other says says' same =
+    let events : scan_events shape.depth text ≡ scan_events shape.depth other = fun_ext (same_events shape.depth text other same) in
+    (ap (λ e. sweep_answer shape (wanted_by e cells) cells) events, λ i. ap (λ e. swept shape (wanted_by e cells) cells (voxel_count shape.depth) i) events)

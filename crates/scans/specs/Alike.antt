@@ -1,10 +1,12 @@
 -- Scans whose lines are the same as a set have the same effect.
-use Rattle.std.specs.Prelude.{◌≡◌, ℕ, Bool, ◌⊎◌, List, [], ◌∷◌}
+use Rattle.std.specs.Prelude.{◌≡◌, ℕ, ◌⊎◌, List, [], ◌∷◌}
 use Rattle.voxels.specs.Refusals.{taken}
 use Rattle.voxels.specs.Space.{voxel_count}
 use Rattle.voxels.specs.declared.cells.Cell.{Cell}
+use Rattle.stores.specs.Shapes.{Shape}
+use Rattle.stores.specs.Sweeps.{sweep_answer, swept}
 use Rattle.scans.specs.Scans.{scan_events}
-use Rattle.scans.specs.Sweeps.{sweep_answer, swept}
+use Rattle.scans.specs.Sweeps.{wanted_by}
 use Rattle.scans.specs.Texts.{Return, ScanText, read_text}
 
 abbrev pub Among : Return → List Return → Type 0
@@ -21,8 +23,8 @@ pub record SameLines (text other : ScanText) : Type 0 where
   pub back : EachAmong other.returns text.returns
 
 -- two texts with the same lines refuse a scan at the same voxel, or set and skip as many voxels and leave the same cells
-abbrev pub OrderFree : ℕ → (ℕ → Bool) → ℕ → (ℕ → Cell) → List ℕ → Type 0
-OrderFree depth closed limit cells bytes =
-    (others : List ℕ) (text other : ScanText) → read_text depth bytes ≡ taken text → read_text depth others ≡ taken other → SameLines text other
-    → (sweep_answer depth closed limit (scan_events depth text) cells ≡ sweep_answer depth closed limit (scan_events depth other) cells)
-    × ((i : ℕ) → swept depth closed limit (scan_events depth text) cells (voxel_count depth) i ≡ swept depth closed limit (scan_events depth other) cells (voxel_count depth) i)
+abbrev pub OrderFree : Shape → (ℕ → Cell) → List ℕ → Type 0
+OrderFree shape cells bytes =
+    (others : List ℕ) (text other : ScanText) → read_text shape.depth bytes ≡ taken text → read_text shape.depth others ≡ taken other → SameLines text other
+    → (sweep_answer shape (wanted_by (scan_events shape.depth text) cells) cells ≡ sweep_answer shape (wanted_by (scan_events shape.depth other) cells) cells)
+    × ((i : ℕ) → swept shape (wanted_by (scan_events shape.depth text) cells) cells (voxel_count shape.depth) i ≡ swept shape (wanted_by (scan_events shape.depth other) cells) cells (voxel_count shape.depth) i)

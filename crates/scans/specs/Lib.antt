@@ -2,8 +2,6 @@ pub mod Texts
 pub mod Lines
 pub mod Steps
 pub mod Sweeps
-pub mod Visits
 pub mod Scans
 pub mod LineMarks
 pub mod Alike
-pub mod Outcomes

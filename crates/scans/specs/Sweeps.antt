@@ -1,57 +1,24 @@
--- The effect of a scan's events on the cells, without a loop. Voxels are changed one by one in rising index, but what stands after each can be said at once.
-use Rattle.std.specs.Prelude.{ℕ, suc, Bool, cond, not, ◌&&◌, is_some, Some, None, Option, ◌==◌, nat_lt}
-use Rattle.voxels.specs.Bounded.{count, first}
+-- What a scan lets voxels become: a cell that sees an event is the updated cell.
+use Rattle.std.specs.Prelude.{ℕ, cond, Some, None, Option, ◌==◌}
 use Rattle.voxels.specs.Cells.{updated}
-use Rattle.voxels.specs.Cubes.{blocks_needed}
-use Rattle.voxels.specs.Refusals.{Told, taken, refused}
-use Rattle.voxels.specs.Space.{voxel_count}
 use Rattle.voxels.specs.declared.cells.Cell.{Cell}
 use Rattle.voxels.specs.declared.cells.Event.{Event}
 use Rattle.voxels.specs.declared.cells.Event.TheVariants.{Hit, Miss}
 use Rattle.tracing.specs.Marks.{hit_mark, miss_mark}
-use Rattle.stores.specs.Sets.{is_open}
 
 -- what a mark on the work page says of its voxel
 abbrev pub mark_event : ℕ → Option Event
 mark_event w = cond (w == miss_mark) (Some Miss) (cond (w == hit_mark) (Some Hit) None)
 
--- a cell after what was seen of its voxel
-abbrev pub seen : Option Event → Cell → Cell
-seen None c = c
-seen (Some e) c = updated c e
+-- what a cell is to become by what was seen of its voxel
+abbrev pub seen : Option Event → Cell → Option Cell
+seen None c = None
+seen (Some e) c = Some (updated c e)
 
--- how many voxels were set and how many were skipped
-pub record Figures : Type 0 where
-  pub set : ℕ
-  pub skipped : ℕ
+-- what each voxel is to become by what was seen of it
+abbrev pub wanted_by : (ℕ → Option Event) → (ℕ → Cell) → ℕ → Option Cell
+wanted_by events cells i = seen (events i) (cells i)
 
--- refused 15 at a voxel, if there is one
-abbrev pub past_or : Option ℕ → Figures → Told Figures
-past_or None figures = taken figures
-past_or (Some i) figures = refused 15 i
-
-module _ (depth : ℕ) (closed : ℕ → Bool) (limit : ℕ) (events : ℕ → Option Event) (cells : ℕ → Cell) where
-  -- an open voxel of which something was seen
-  abbrev pub is_set : ℕ → Bool
-  is_set i = is_open depth closed i && is_some (events i)
-
-  -- a closed one
-  abbrev pub is_skipped : ℕ → Bool
-  is_skipped i = not (is_open depth closed i) && is_some (events i)
-
-  -- the cells with every open event below n applied
-  abbrev pub swept : ℕ → ℕ → Cell
-  swept n i = cond (nat_lt i n && is_set i) (seen (events i) (cells i)) (cells i)
-
-  -- the set of this voxel needs more blocks than the limit
-  unfoldable pub passes_limit : ℕ → Bool
-  passes_limit i = is_set i && nat_lt limit (blocks_needed depth (swept (suc i)))
-
-  -- taken where no set passes the limit; else refused at the first voxel whose set does
-  unfoldable pub sweep_answer : Told Figures
-  sweep_answer = past_or (first (voxel_count depth) passes_limit) (record { set = count (voxel_count depth) is_set; skipped = count (voxel_count depth) is_skipped })
-
-  -- all events applied, or, where it is refused, none
-  abbrev pub swept_cells : Told Figures → ℕ → Cell
-  swept_cells (taken figures) = swept (voxel_count depth)
-  swept_cells (refused number place) = cells
+-- what a cell is to become by its voxel's mark
+abbrev pub marked_cell : ℕ → Cell → Option Cell
+marked_cell mark c = seen (mark_event mark) c

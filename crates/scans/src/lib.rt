@@ -5,6 +5,6 @@ mod calls;
 mod lines;
 mod marks;
 mod reader;
-mod sweep;
+mod rule;
 
 pub use calls::{Scanned, scan};

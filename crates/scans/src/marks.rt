@@ -4,7 +4,7 @@ ghost use Rattle.scans.specs.Texts.{Return, outside, since};
 ghost use Rattle.voxels.specs.Space.{voxel_count};
 
 use crate::reader::{Reader, Stage, Step};
-use tracing::{mark_end, trace};
+use tracing::{Ray, mark_end, trace};
 use voxels::{Position, Refusal};
 
 // Marks what a return line passes and, for a hit, where it ends.
@@ -15,7 +15,7 @@ fn mark_return(page: &mut [u16], depth: u8, origin: Position, hit: bool, end: Po
     ensures marks { (returns : List Return) → MarkedBy depth (since origin returns) page.old → MarkedBy depth (since origin (record { is_hit = hit; end = end } ∷ returns)) page.new }
     ensures rest { (k : ℕ) → voxel_count depth ≤ k → slice_index page.new k ≡ slice_index page.old k }
 {
-    let _ = trace(page, depth, origin, end);
+    let _ = trace(page, depth, Ray { origin, end });
     if hit {
         mark_end(page, depth, end);
     }
