@@ -21,9 +21,6 @@ child_in_cube level first j low h =
     let one : suc j * 8 ^ (level - 1) ≤ 8 * 8 ^ (level - 1) = mul-le-mul_right (8 ^ (level - 1)) (omega arith) in
     omega (arith, one, size_up level low)
 
-pub child_fits : (level first j size : ℕ) → 1 ≤ level → j < 8 → first + 8 ^ level ≤ 32768 → size ≡ 8 ^ (level - 1) → first + j * size + 8 ^ (level - 1) ≤ 32768
-child_fits level first j size low h inside is = omega (arith, child_in_cube level first j low h, ap (λ n. j * n) is)
-
 -- a child's voxel is one of the cube's
 pub in_cube : (level j k : ℕ) → j < 8 → k < 8 ^ level → j * 8 ^ level + k < 8 ^ suc level
 in_cube level j k h below = omega (arith, pow-suc 8 level, mul-add-lt j (8 ^ level) k 8 h below)

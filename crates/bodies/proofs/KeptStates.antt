@@ -1,7 +1,8 @@
 -- States in the words of a page, cube by cube.
-use Rattle.std.proofs.Common.{◌≡◌, ℕ, ◌+◌, ◌-◌, ◌<◌, ◌≤◌, List, [], ◌++◌, length, get_or, replicate, sym, refl, ap, ◌∙◌, ⊎_elim, arith, length-append}
+use Rattle.std.proofs.Common.{◌≡◌, ℕ, ◌+◌, ◌-◌, ◌<◌, ◌≤◌, List, [], ◌++◌, length, get_or, take, drop, min, replicate, sym, refl, ap, ◌∙◌, ⊎_elim, arith, length-append}
+use borrow.Rule.Slice.PartMut.{put_mid}
 use lib.ListN.{length-replicate, get_or-replicate, get_or-append}
-use Rattle.std.proofs.lemmas.List.{get_or-append_right}
+use Rattle.std.proofs.lemmas.List.{get_or-append_right, length-drop, length-take-le, places}
 use Rattle.std.proofs.lemmas.Bool.{cases_lt}
 use Rattle.bodies.specs.Codes.{state_code}
 use Rattle.bodies.specs.Reads.{Kept, Spared}
@@ -27,16 +28,27 @@ kept_more before now after first next states more at one two = record {
   behind = λ i h. let sum = length-append states more in two.behind i (omega arith) ∙ one.behind i (omega arith);
 }
 
--- a cube of one state
-pub kept_fill : (before after : List ℕ) (first count : ℕ) (state : State) → length after ≡ length before → ((i : ℕ) → i < first → get_or after i 0 ≡ get_or before i 0) → ((i : ℕ) → first ≤ i → i < first + count → i < length before → get_or after i 0 ≡ state_code state) → ((i : ℕ) → first + count ≤ i → get_or after i 0 ≡ get_or before i 0) → Kept before after first (replicate count state)
-kept_fill before after first count state long ahead inside behind =
-    let size = length-replicate count state in
-    record {
-      long = long;
-      inside = λ j h room. inside (first + j) (omega arith) (omega arith) room ∙ ap state_code (sym (get_or-replicate count j state State.Unknown (omega arith)));
-      ahead = ahead;
-      behind = λ i h. behind i (omega arith);
-    }
+-- a cube of one state, as far as there are words
+module _ (words part : List ℕ) (first count start end : ℕ) (state : State)
+    (ends : end ≡ min (first + count) (length words)) (starts : start ≡ min first end) (is : part ≡ replicate (length (take (end - start) (drop start words))) (state_code state)) where
+  abbrev filled : List ℕ
+  filled = put_mid start (end - start) words part
+
+  part_long : length part ≡ end - start
+  part_long = ap length is ∙ length-replicate _ (state_code state) ∙ length-take-le (end - start) (drop start words) (omega (arith, length-drop start words))
+
+  in_part : (j : ℕ) → j < count → first + j < length words → get_or filled (first + j) 0 ≡ state_code state
+  in_part j h room = grind (arith, places)
+
+  pub kept_part : Kept words filled first (replicate count state)
+  kept_part =
+      let size = length-replicate count state in
+      record {
+        long = grind (arith, places);
+        inside = λ j h room. in_part j (omega arith) room ∙ ap state_code (sym (get_or-replicate count j state State.Unknown (omega arith)));
+        ahead = λ i h. grind (arith, places);
+        behind = λ i h. grind (arith, places);
+      }
 
 -- what was kept lies in its cube
 pub kept_spares : (before after : List ℕ) (first end : ℕ) (states : List State) → first + length states ≤ end → Kept before after first states → Spared before after end

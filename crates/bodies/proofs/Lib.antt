@@ -11,11 +11,11 @@ mod Accepted
 mod KeptStates
 mod ReadingOn
 mod WholeBodies
-mod Placing
 mod Loading
 mod Numbers
 mod LoadCalls
 mod Words
 mod Outputs
 mod PairCodes
+mod Ranges
 mod WriteCalls

@@ -9,7 +9,9 @@ use Rattle.voxels.specs.declared.cells.Cell.TheVariants.{Unknown}
 use Rattle.voxels.specs.declared.cells.State.{State}
 use Rattle.voxels.specs.declared.refusals.Refusal.{Refusal}
 use Rattle.voxels.proofs.Blocks.{count_depth, map_depth}
-use Rattle.stores.specs.Sweeps.{Figures, is_skipped, passes_limit, past_or, sweep_answer, swept, swept_cells}
+use Rattle.stores.specs.Shapes.{Shape}
+use Rattle.stores.specs.declared.visits.Swept.{Swept}
+use Rattle.stores.specs.Sweeps.{is_skipped, passes_limit, past_or, sweep_answer, swept, swept_cells}
 use Rattle.bodies.specs.Codes.{state_code}
 use Rattle.bodies.specs.Loads.{WritesSame, load_cells, states_answer, states_cells, wanted_by, word_cells}
 use Rattle.bodies.specs.Readings.{read_body}
@@ -47,29 +49,29 @@ module _ (depth held : ℕ) (body before after : List ℕ) (same : held ≡ dept
       (got.0, λ k past. got.1.each k (omega (arith, whole)))
 
 -- from the words that a sweep goes by to what the body says
-module _ (depth : ℕ) (closed : ℕ → Bool) (limit : ℕ) (cells : ℕ → Cell) (words : List ℕ) (body : List ℕ) (states : List State) (says : read_body depth body ≡ taken states) (coded : (i : ℕ) → i < voxel_count depth → get_or words i 0 ≡ state_code (listed states i)) where
-  pub states_answer_lem : sweep_answer depth closed limit (word_cells words) cells ≡ states_answer depth closed limit cells (read_body depth body)
-  states_answer_lem = words_answer depth closed limit cells words states coded ∙ sym (ap (states_answer depth closed limit cells) says)
+module _ (shape : Shape) (cells : ℕ → Cell) (words : List ℕ) (body : List ℕ) (states : List State) (says : read_body shape.depth body ≡ taken states) (coded : (i : ℕ) → i < voxel_count shape.depth → get_or words i 0 ≡ state_code (listed states i)) where
+  pub states_answer_lem : sweep_answer shape (word_cells words) cells ≡ states_answer shape cells (read_body shape.depth body)
+  states_answer_lem = words_answer shape cells words states coded ∙ sym (ap (states_answer shape cells) says)
 
-  pub states_cells_lem : (t : Told Figures) (i : ℕ) → swept_cells depth closed limit (word_cells words) cells t i ≡ load_cells depth closed limit cells t body i
-  states_cells_lem (taken figures) i = words_swept depth closed limit cells words states coded i ∙ sym (ap (λ x. states_cells depth closed limit cells x i) says)
+  pub states_cells_lem : (t : Told Swept) (i : ℕ) → swept_cells shape (word_cells words) cells t i ≡ load_cells shape cells t body i
+  states_cells_lem (taken figures) i = words_swept shape cells words states coded i ∙ sym (ap (λ x. states_cells shape cells x i) says)
   states_cells_lem (refused number place) i = refl
 
-past_figures : (o : Option ℕ) (figures told-so : Figures) → taken told-so ≡ past_or o figures → told-so.skipped ≡ figures.skipped
-past_figures None figures told-so e = let same : told-so ≡ figures = cc in ap (λ (f : Figures). f.skipped) same
+past_figures : (o : Option ℕ) (figures told-so : Swept) → taken told-so ≡ past_or o figures → told-so.skipped ≡ figures.skipped
+past_figures None figures told-so e = let same : told-so ≡ figures = cc in ap (λ (f : Swept). f.skipped) same
 past_figures (Some i) figures told-so e = absurd (let z : ◌≡◌ {A = ℕ} 0 1 = cc in omega arith)
 
-skipped_count : (depth : ℕ) (closed : ℕ → Bool) (limit : ℕ) (wanted : ℕ → Option Cell) (cells : ℕ → Cell) (figures : Figures) → taken figures ≡ sweep_answer depth closed limit wanted cells → figures.skipped ≡ count (voxel_count depth) (is_skipped depth closed limit wanted cells)
+skipped_count : (shape : Shape) (wanted : ℕ → Option Cell) (cells : ℕ → Cell) (figures : Swept) → taken figures ≡ sweep_answer shape wanted cells → figures.skipped ≡ count (voxel_count shape.depth) (is_skipped shape wanted cells)
 unfolding sweep_answer
-skipped_count depth closed limit wanted cells figures e = past_figures (first (voxel_count depth) (passes_limit depth closed limit wanted cells)) _ figures e
+skipped_count shape wanted cells figures e = past_figures (first (voxel_count shape.depth) (passes_limit shape wanted cells)) _ figures e
 
 -- what an empty map took with nothing skipped is written as the same bytes
-pub loaded_same : (depth : ℕ) (closed : ℕ → Bool) (limit : ℕ) (cells after : ℕ → Cell) (body : List ℕ) (states : List State) (t : Told Figures) → ((i : ℕ) → cells i ≡ Unknown) → is_depth depth ≡ true → Bytes body → read_body depth body ≡ taken states → t ≡ states_answer depth closed limit cells (read_body depth body) → ((i : ℕ) → after i ≡ load_cells depth closed limit cells t body i) → WritesSame depth after body t
-loaded_same depth closed limit cells after body states (taken figures) empty is bytes says answer left =
+pub loaded_same : (shape : Shape) (cells after : ℕ → Cell) (body : List ℕ) (states : List State) (t : Told Swept) → ((i : ℕ) → cells i ≡ Unknown) → is_depth shape.depth ≡ true → Bytes body → read_body shape.depth body ≡ taken states → t ≡ states_answer shape cells (read_body shape.depth body) → ((i : ℕ) → after i ≡ load_cells shape cells t body i) → WritesSame shape.depth after body t
+loaded_same shape cells after body states (taken figures) empty is bytes says answer left =
     λ none.
-    let swept-so = swept depth closed limit (wanted_by states) cells (voxel_count depth) in
-    let skipped = skipped_count depth closed limit (wanted_by states) cells figures (answer ∙ ap (states_answer depth closed limit cells) says) in
-    let each : (i : ℕ) → after i ≡ swept-so i = λ i. left i ∙ ap (λ x. states_cells depth closed limit cells x i) says in
-    body_same depth (λ i. state_of (after i)) 0 (λ i. state_of (swept-so i)) 0 (λ j h. ap state_of (each (0 + j)))
-    ∙ loaded_again depth closed limit cells states empty (sym skipped ∙ none) body is bytes says
-loaded_same depth closed limit cells after body states (refused number place) empty is bytes says answer left = tt
+    let swept-so = swept shape (wanted_by states) cells (voxel_count shape.depth) in
+    let skipped = skipped_count shape (wanted_by states) cells figures (answer ∙ ap (states_answer shape cells) says) in
+    let each : (i : ℕ) → after i ≡ swept-so i = λ i. left i ∙ ap (λ x. states_cells shape cells x i) says in
+    body_same shape.depth (λ i. state_of (after i)) 0 (λ i. state_of (swept-so i)) 0 (λ j h. ap state_of (each (0 + j)))
+    ∙ loaded_again shape cells states empty (sym skipped ∙ none) body is bytes says
+loaded_same shape cells after body states (refused number place) empty is bytes says answer left = tt

@@ -13,7 +13,9 @@ use Rattle.voxels.proofs.Blocks.{count_depth, map_depth}
 use Rattle.voxels.proofs.Bounds.{count_zero, some_fails, some_has, some_none}
 use Rattle.voxels.proofs.WorkPages.{over_enough}
 use Rattle.stores.specs.Sets.{is_open}
-use Rattle.stores.specs.Sweeps.{Figures, became, is_skipped, passes_limit, past_or, sweep_answer, swept}
+use Rattle.stores.specs.Shapes.{Shape}
+use Rattle.stores.specs.declared.visits.Swept.{Swept}
+use Rattle.stores.specs.Sweeps.{became, is_skipped, passes_limit, past_or, sweep_answer, swept}
 use Rattle.stores.proofs.Sweeps.{same_sweep, same_swept}
 use Rattle.bodies.specs.Bodies.{map_body}
 use Rattle.bodies.specs.Codes.{state_code}
@@ -31,12 +33,12 @@ use Rattle.bodies.proofs.Written.{reads_back}
 words_say : (words : List ℕ) (states : List State) (n : ℕ) → ((i : ℕ) → i < n → get_or words i 0 ≡ state_code (listed states i)) → (i : ℕ) → i < n → word_cells words i ≡ wanted_by states i
 words_say words states n coded i h = ap word_cell (coded i h) ∙ ap state_cell (state_back (listed states i))
 
-module _ (depth : ℕ) (closed : ℕ → Bool) (limit : ℕ) (cells : ℕ → Cell) (words : List ℕ) (states : List State) (coded : (i : ℕ) → i < voxel_count depth → get_or words i 0 ≡ state_code (listed states i)) where
-  pub words_answer : sweep_answer depth closed limit (word_cells words) cells ≡ sweep_answer depth closed limit (wanted_by states) cells
-  words_answer = same_sweep depth closed limit cells (word_cells words) (wanted_by states) (words_say words states (voxel_count depth) coded)
+module _ (shape : Shape) (cells : ℕ → Cell) (words : List ℕ) (states : List State) (coded : (i : ℕ) → i < voxel_count shape.depth → get_or words i 0 ≡ state_code (listed states i)) where
+  pub words_answer : sweep_answer shape (word_cells words) cells ≡ sweep_answer shape (wanted_by states) cells
+  words_answer = same_sweep shape cells (word_cells words) (wanted_by states) (words_say words states (voxel_count shape.depth) coded)
 
-  pub words_swept : (i : ℕ) → swept depth closed limit (word_cells words) cells (voxel_count depth) i ≡ swept depth closed limit (wanted_by states) cells (voxel_count depth) i
-  words_swept = same_swept depth closed limit cells (word_cells words) (wanted_by states) (words_say words states (voxel_count depth) coded) (voxel_count depth)
+  pub words_swept : (i : ℕ) → swept shape (word_cells words) cells (voxel_count shape.depth) i ≡ swept shape (wanted_by states) cells (voxel_count shape.depth) i
+  words_swept = same_swept shape cells (word_cells words) (wanted_by states) (words_say words states (voxel_count shape.depth) coded) (voxel_count shape.depth)
 
 -- what a map writes is taken
 writable_taken : (depth : ℕ) (body : List ℕ) → Writable depth body → (states : List State) × (read_body depth body ≡ taken states)
@@ -68,37 +70,37 @@ check_exact depth body bytes = (
       (cases_Bool (is_depth depth)),
 )
 
-past_sound : (o : Option ℕ) (figures : Figures) → is_malformed (past_or o figures) ≡ false
+past_sound : (o : Option ℕ) (figures : Swept) → is_malformed (past_or o figures) ≡ false
 past_sound None figures = refl
 past_sound (Some i) figures = refl
 
 -- a sweep calls no body malformed
-sweep_sound : (depth : ℕ) (closed : ℕ → Bool) (limit : ℕ) (wanted : ℕ → Option Cell) (cells : ℕ → Cell) → is_malformed (sweep_answer depth closed limit wanted cells) ≡ false
+sweep_sound : (shape : Shape) (wanted : ℕ → Option Cell) (cells : ℕ → Cell) → is_malformed (sweep_answer shape wanted cells) ≡ false
 unfolding sweep_answer
-sweep_sound depth closed limit wanted cells = past_sound (first (voxel_count depth) (passes_limit depth closed limit wanted cells)) _
+sweep_sound shape wanted cells = past_sound (first (voxel_count shape.depth) (passes_limit shape wanted cells)) _
 
-refused_malformed : (number place : ℕ) → (9 ≤ number) × (number ≤ 12) → is_malformed {A = Figures} (refused number place) ≡ true
+refused_malformed : (number place : ℕ) → (9 ≤ number) × (number ≤ 12) → is_malformed {A = Swept} (refused number place) ≡ true
 refused_malformed number place within = and_from (leb 9 number) (leb number 12) (le-leb 9 number within.0) (le-leb number 12 within.1)
 
 -- by what the body was read as
-states_exact : (depth : ℕ) (closed : ℕ → Bool) (limit : ℕ) (cells : ℕ → Cell) (body : List ℕ) (told : Told (List State)) → is_depth depth ≡ true → Bytes body → read_body depth body ≡ told → (is_malformed (states_answer depth closed limit cells told) ≡ true → Writable depth body → ⊥) × (is_malformed (states_answer depth closed limit cells told) ≡ false → Writable depth body)
-states_exact depth closed limit cells body (taken states) is bytes e = (
-  λ bad w. both_ways _ (sweep_sound depth closed limit (wanted_by states) cells) bad,
-  λ good. accepted_writable depth body states is bytes e,
+states_exact : (shape : Shape) (cells : ℕ → Cell) (body : List ℕ) (told : Told (List State)) → is_depth shape.depth ≡ true → Bytes body → read_body shape.depth body ≡ told → (is_malformed (states_answer shape cells told) ≡ true → Writable shape.depth body → ⊥) × (is_malformed (states_answer shape cells told) ≡ false → Writable shape.depth body)
+states_exact shape cells body (taken states) is bytes e = (
+  λ bad w. both_ways _ (sweep_sound shape (wanted_by states) cells) bad,
+  λ good. accepted_writable shape.depth body states is bytes e,
 )
-states_exact depth closed limit cells body (refused number place) is bytes e = (
-  λ bad w. let ok = (writable_taken depth body w).1 in let z : ◌≡◌ {A = ℕ} 0 1 = cc in absurd (omega arith),
-  λ good. absurd (both_ways _ good (refused_malformed number place (refused_number depth body number place e))),
+states_exact shape cells body (refused number place) is bytes e = (
+  λ bad w. let ok = (writable_taken shape.depth body w).1 in let z : ◌≡◌ {A = ℕ} 0 1 = cc in absurd (omega arith),
+  λ good. absurd (both_ways _ good (refused_malformed number place (refused_number shape.depth body number place e))),
 )
 
 -- by whether a cell is known
-module _ (depth : ℕ) (closed : ℕ → Bool) (limit : ℕ) (cells : ℕ → Cell) (body : List ℕ) where
-  pub load_known : some (voxel_count depth) (λ i. is_known (cells i)) ≡ true → body_answer depth closed limit cells body ≡ refused 8 0
-  load_known known = cond-true (some (voxel_count depth) (λ i. is_known (cells i))) _ _ known
+module _ (shape : Shape) (cells : ℕ → Cell) (body : List ℕ) where
+  pub load_known : some (voxel_count shape.depth) (λ i. is_known (cells i)) ≡ true → body_answer shape cells body ≡ refused 8 0
+  load_known known = cond-true (some (voxel_count shape.depth) (λ i. is_known (cells i))) _ _ known
 
   -- into an empty map it rests on the body alone
-  pub load_states : ((i : ℕ) → cells i ≡ Cell.Unknown) → body_answer depth closed limit cells body ≡ states_answer depth closed limit cells (read_body depth body)
-  load_states empty = cond-false (some (voxel_count depth) (λ i. is_known (cells i))) _ _ (some_none (voxel_count depth) (λ i. is_known (cells i)) (λ i h. ap is_known (empty i)))
+  pub load_states : ((i : ℕ) → cells i ≡ Cell.Unknown) → body_answer shape cells body ≡ states_answer shape cells (read_body shape.depth body)
+  load_states empty = cond-false (some (voxel_count shape.depth) (λ i. is_known (cells i))) _ _ (some_none (voxel_count shape.depth) (λ i. is_known (cells i)) (λ i h. ap is_known (empty i)))
 
 -- whether any of the cells is known
 pub known_some : (cells : ℕ → Cell) (n i : ℕ) (v : ℤ) → i < n → cell.TheVariants.Known v ≡ cells i → true ≡ some n (λ k. is_known (cells k))
@@ -119,11 +121,11 @@ all_unknown depth cells outside none i =
     (λ past. outside i past)
     (cases_lt i (voxel_count depth))
 
-pub load_exact : (depth : ℕ) (closed : ℕ → Bool) (limit : ℕ) (cells : ℕ → Cell) (words : ℕ) (body : List ℕ) → depth ≤ 5 → Bytes body → MalformedExactly depth cells words body (load_answer depth closed limit cells words body)
-load_exact depth closed limit cells words body deep bytes above long empty =
-    let is : is_depth depth ≡ true = map_depth depth above deep in
-    let P : Told Figures → Type 0 = λ told. (is_malformed told ≡ true → Writable depth body → ⊥) × (is_malformed told ≡ false → Writable depth body) in
-    subst P (sym (over_enough depth words (body_answer depth closed limit cells body) above long ∙ load_states depth closed limit cells body empty)) (states_exact depth closed limit cells body (read_body depth body) is bytes refl)
+pub load_exact : (shape : Shape) (cells : ℕ → Cell) (words : ℕ) (body : List ℕ) → shape.depth ≤ 5 → Bytes body → MalformedExactly shape.depth cells words body (load_answer shape cells words body)
+load_exact shape cells words body deep bytes above long empty =
+    let is : is_depth shape.depth ≡ true = map_depth shape.depth above deep in
+    let P : Told Swept → Type 0 = λ told. (is_malformed told ≡ true → Writable shape.depth body → ⊥) × (is_malformed told ≡ false → Writable shape.depth body) in
+    subst P (sym (over_enough shape.depth words (body_answer shape cells body) above long ∙ load_states shape cells body empty)) (states_exact shape cells body (read_body shape.depth body) is bytes refl)
 
 -- an unknown voxel that is not skipped gets its state
 placed_state : (s : State) (open? : Bool) (c : Cell) → c ≡ Cell.Unknown → (not open? && is_some (state_cell s)) ≡ false → state_of (cond (open? && is_some (state_cell s)) (became (state_cell s) c) c) ≡ s
@@ -134,18 +136,18 @@ placed_state Free false c empty none = absurd (both_ways _ none refl)
 placed_state Occupied true c empty none = refl
 placed_state Occupied false c empty none = absurd (both_ways _ none refl)
 
-module _ (depth : ℕ) (closed : ℕ → Bool) (limit : ℕ) (cells : ℕ → Cell) (states : List State) (empty : (i : ℕ) → cells i ≡ Cell.Unknown) (unskipped : count (voxel_count depth) (is_skipped depth closed limit (wanted_by states) cells) ≡ 0) where
+module _ (shape : Shape) (cells : ℕ → Cell) (states : List State) (empty : (i : ℕ) → cells i ≡ Cell.Unknown) (unskipped : count (voxel_count shape.depth) (is_skipped shape (wanted_by states) cells) ≡ 0) where
   -- an empty map that was loaded with nothing skipped has the states
-  loaded_state : (i : ℕ) → i < voxel_count depth → state_of (swept depth closed limit (wanted_by states) cells (voxel_count depth) i) ≡ listed states i
+  loaded_state : (i : ℕ) → i < voxel_count shape.depth → state_of (swept shape (wanted_by states) cells (voxel_count shape.depth) i) ≡ listed states i
   loaded_state i h =
-      let open? = is_open depth closed i in
+      let open? = is_open shape i in
       let wanted = wanted_by states i in
-      ap (λ b. state_of (cond (b && (open? && is_some wanted)) (became wanted (cells i)) (cells i))) (lt-ltb i (voxel_count depth) h)
-      ∙ placed_state (listed states i) open? (cells i) (empty i) (count_zero (voxel_count depth) (is_skipped depth closed limit (wanted_by states) cells) unskipped i h)
+      ap (λ b. state_of (cond (b && (open? && is_some wanted)) (became wanted (cells i)) (cells i))) (lt-ltb i (voxel_count shape.depth) h)
+      ∙ placed_state (listed states i) open? (cells i) (empty i) (count_zero (voxel_count shape.depth) (is_skipped shape (wanted_by states) cells) unskipped i h)
 
   -- and is written as the bytes that were loaded
-  pub loaded_again : (body : List ℕ) → is_depth depth ≡ true → Bytes body → read_body depth body ≡ taken states → map_body depth (swept depth closed limit (wanted_by states) cells (voxel_count depth)) ≡ body
+  pub loaded_again : (body : List ℕ) → is_depth shape.depth ≡ true → Bytes body → read_body shape.depth body ≡ taken states → map_body shape.depth (swept shape (wanted_by states) cells (voxel_count shape.depth)) ≡ body
   loaded_again body is bytes e =
-      let same : (j : ℕ) → j < 8 ^ depth → state_of (swept depth closed limit (wanted_by states) cells (voxel_count depth) (0 + j)) ≡ listed states (0 + j) =
-      λ j h. loaded_state (0 + j) (omega (arith, count_depth depth is)) in
-      body_same depth (λ i. state_of (swept depth closed limit (wanted_by states) cells (voxel_count depth) i)) 0 (listed states) 0 same ∙ taken_again depth body states bytes e
+      let same : (j : ℕ) → j < 8 ^ shape.depth → state_of (swept shape (wanted_by states) cells (voxel_count shape.depth) (0 + j)) ≡ listed states (0 + j) =
+      λ j h. loaded_state (0 + j) (omega (arith, count_depth shape.depth is)) in
+      body_same shape.depth (λ i. state_of (swept shape (wanted_by states) cells (voxel_count shape.depth) i)) 0 (listed states) 0 same ∙ taken_again shape.depth body states bytes e

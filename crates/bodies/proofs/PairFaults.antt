@@ -1,13 +1,9 @@
 -- Why a pair is refused, by what was tested.
-use Rattle.std.proofs.Common.{◌≡◌, ℕ, ◌<◌, Bool, true, false, cond, not, ◌&&◌, eqb, ◌≢◌, Some, None, Option, sym, refl, ap, ◌∙◌, ap₂, ⊎_elim, arith, lit<}
+use Rattle.std.proofs.Common.{◌≡◌, ℕ, ◌<◌, Bool, true, false, cond, not, ◌&&◌, eqb, ◌≢◌, Some, None, Option, sym, ap, ◌∙◌, ap₂, ⊎_elim, arith, lit<}
 use Rattle.std.proofs.lemmas.Bool.{and_from, and_left, and_right, cases_Bool, cond-true, cond-false, eq-eqb, ne_eqb, not_from_false}
 use Rattle.bodies.specs.Readings.{pair_fault}
 use Rattle.voxels.proofs.Bounds.{all_holds, all_same, some_same}
 use Rattle.voxels.specs.Bounded.{all, some}
-
-pub and_true : (a b : Bool) → b ≡ true → (a && b) ≡ a
-and_true true b e = e
-and_true false b e = refl
 
 module _ (level : ℕ) (root : Bool) (code : ℕ → ℕ) where
   abbrev pub deep : Bool

@@ -1,13 +1,11 @@
 -- A pair's children read one by one, with the states in their words.
-use Rattle.std.proofs.Common.{◌≡◌, ℕ, zero, suc, ◌+◌, ◌-◌, ◌*◌, ◌^◌, ◌<◌, ◌≤◌, Bool, false, eqb, List, [], ◌∷◌, ◌++◌, length, get_or, take, drop, replicate, Some, None, Ok, Err, Result, sym, refl, ap, ◌∙◌, subst, ap₂, ⊎_elim, mul-le-mul_right, suc-mul, one-mul, zero-mul, add-one, arith, length-append}
+use Rattle.std.proofs.Common.{◌≡◌, ℕ, zero, suc, ◌+◌, ◌-◌, ◌*◌, ◌^◌, ◌<◌, ◌≤◌, Bool, false, eqb, List, [], ◌∷◌, ◌++◌, length, get_or, take, drop, replicate, Some, None, Ok, Err, Option, Result, sym, refl, ap, ◌∙◌, subst, ap₂, ⊎_elim, mul-le-mul_right, suc-mul, one-mul, zero-mul, add-one, arith, length-append}
 use Rattle.std.proofs.lemmas.List.{length-drop, take_all}
 use Rattle.std.proofs.lemmas.Bool.{cases_Bool, cases_eq, cond_both, cond-true, cond-false, eq-eqb, and_from}
 use Rattle.bodies.specs.Bodies.{child_first}
 use Rattle.bodies.specs.Codes.{child_code, code_state}
 use Rattle.bodies.specs.Readings.{Reading, read, wrong, prepend, and_then, pair_fault, fault_or, read_child, read_children, read_pair}
 use Rattle.bodies.specs.Reads.{AboveVoxels, Kept, ReadTo, Spared, code_of, read_code}
-use Rattle.bodies.specs.declared.codes.Code.{Code}
-use Rattle.bodies.specs.declared.codes.Code.TheVariants.{Uniform, Mixed}
 use Rattle.bodies.specs.declared.reader.Rest.{Rest}
 use Rattle.voxels.specs.Refusals.{number_of}
 use Rattle.voxels.specs.declared.cells.State.{State}
@@ -41,8 +39,8 @@ reached_none below size code at bytes words first = record {
 code_read : (below : ℕ → List ℕ → Reading) (size code at : ℕ) (bytes : List ℕ) → read_code below size (code_of code) at bytes ≡ read_child below size code at bytes
 code_read below size code at bytes =
     ⊎_elim
-    (λ mixed. ap (λ c. read_code below size c at bytes) (cond-true (eqb code 3) Mixed (Uniform (code_state code)) mixed) ∙ sym (cond-true (eqb code 3) (below at bytes) (read (replicate size (code_state code)) at bytes) mixed))
-    (λ other. ap (λ c. read_code below size c at bytes) (cond-false (eqb code 3) Mixed (Uniform (code_state code)) other) ∙ sym (cond-false (eqb code 3) (below at bytes) (read (replicate size (code_state code)) at bytes) other))
+    (λ mixed. ap (λ c. read_code below size c at bytes) (cond-true (eqb code 3) None (Some (code_state code)) mixed) ∙ sym (cond-true (eqb code 3) (below at bytes) (read (replicate size (code_state code)) at bytes) mixed))
+    (λ other. ap (λ c. read_code below size c at bytes) (cond-false (eqb code 3) None (Some (code_state code)) other) ∙ sym (cond-false (eqb code 3) (below at bytes) (read (replicate size (code_state code)) at bytes) other))
     (cases_Bool (eqb code 3))
 
 pub taken_as : (reading : Reading) (before after : List ℕ) (level first : ℕ) (left : Rest) → ReadTo reading before after level first (Ok left) → (states : List State) × (reading ≡ read states left.at left.bytes.now) × Kept before after first states
@@ -57,7 +55,7 @@ child_near : (level code at : ℕ) (bytes : List ℕ) (states : List State) (nex
 child_near level code at bytes states next rest e = subst (Within (8 ^ level) (at + 8 ^ level)) e (child_within (read_pair level false) (8 ^ level) (eight_pos level) (pair_within level false) code at bytes)
 
 -- the next child is read by a cube and a code that are those of child n
-module _ (level : ℕ) (code : ℕ → ℕ) (at : ℕ) (bytes before now after : List ℕ) (first n left_at : ℕ) (left : List ℕ) (so_far : Reached (read_pair level false) (8 ^ level) code at bytes before now first n left_at left) (r : Result Rest Refusal) (child_level child_at : ℕ) (its_code : Code) (levels : child_level ≡ level) (places : child_at ≡ child_first level first n) (codes : its_code ≡ code_of (code n)) where
+module _ (level : ℕ) (code : ℕ → ℕ) (at : ℕ) (bytes before now after : List ℕ) (first n left_at : ℕ) (left : List ℕ) (so_far : Reached (read_pair level false) (8 ^ level) code at bytes before now first n left_at left) (r : Result Rest Refusal) (child_level child_at : ℕ) (its_code : Option State) (levels : child_level ≡ level) (places : child_at ≡ child_first level first n) (codes : its_code ≡ code_of (code n)) where
   abbrev size : ℕ
   size = 8 ^ level
 
@@ -65,7 +63,7 @@ module _ (level : ℕ) (code : ℕ → ℕ) (at : ℕ) (bytes before now after :
   as_child done =
       let P : ℕ → Type 0 = λ l. ReadTo (read_code (read_pair l false) (8 ^ l) its_code left_at left) now after l child_at r in
       let Q : ℕ → Type 0 = λ f. ReadTo (read_code (read_pair level false) size its_code left_at left) now after level f r in
-      let R : Code → Type 0 = λ c. ReadTo (read_code (read_pair level false) size c left_at left) now after level (child_first level first n) r in
+      let R : Option State → Type 0 = λ c. ReadTo (read_code (read_pair level false) size c left_at left) now after level (child_first level first n) r in
       let S : Reading → Type 0 = λ x. ReadTo x now after level (child_first level first n) r in
       subst S (code_read (read_pair level false) size (code n) left_at left) (subst R codes (subst Q places (subst P levels done)))
 
@@ -76,7 +74,7 @@ module _ (level : ℕ) (code : ℕ → ℕ) (at : ℕ) (bytes before now after :
   starts : child_first level first n ≡ first + length so_far.states
   starts = omega (arith, so_far.long)
 
-pub reached_more : (level : ℕ) (code : ℕ → ℕ) (at : ℕ) (bytes before now after : List ℕ) (first n left_at : ℕ) (left : List ℕ) (so_far : Reached (read_pair level false) (8 ^ level) code at bytes before now first n left_at left) (next : Rest) (child_level child_at : ℕ) (child : Code) → child_level ≡ level → child_at ≡ child_first level first n → child ≡ code_of (code n) → ReadTo (read_code (read_pair child_level false) (8 ^ child_level) child left_at left) now after child_level child_at (Ok next) → Reached (read_pair level false) (8 ^ level) code at bytes before after first (n + 1) next.at next.bytes.now
+pub reached_more : (level : ℕ) (code : ℕ → ℕ) (at : ℕ) (bytes before now after : List ℕ) (first n left_at : ℕ) (left : List ℕ) (so_far : Reached (read_pair level false) (8 ^ level) code at bytes before now first n left_at left) (next : Rest) (child_level child_at : ℕ) (child : Option State) → child_level ≡ level → child_at ≡ child_first level first n → child ≡ code_of (code n) → ReadTo (read_code (read_pair child_level false) (8 ^ child_level) child left_at left) now after child_level child_at (Ok next) → Reached (read_pair level false) (8 ^ level) code at bytes before after first (n + 1) next.at next.bytes.now
 reached_more level code at bytes before now after first n left_at left so_far next child_level child_at child levels places codes done =
     let size = 8 ^ level in
     let got = taken_as (read_child (read_pair level false) size (code n) left_at left) now after level (child_first level first n) next (as_child level code at bytes before now after first n left_at left so_far (Ok next) child_level child_at child levels places codes done) in
@@ -98,7 +96,7 @@ wrong_on below size code at bytes n number place (suc k) e =
     let more : suc k + n ≡ suc (k + n) = omega arith in
     ap (λ m. read_children below size code m at bytes) more ∙ children_more below size code (k + n) at bytes ∙ ap (λ x. and_then x (read_child below size (code (k + n)))) (wrong_on below size code at bytes n number place k e)
 
-pub reached_wrong : (level : ℕ) (code : ℕ → ℕ) (at : ℕ) (bytes before now after : List ℕ) (first n left_at : ℕ) (left : List ℕ) (so_far : Reached (read_pair level false) (8 ^ level) code at bytes before now first n left_at left) (e : Refusal) (child_level child_at : ℕ) (child : Code) → n < 8 → child_level ≡ level → child_at ≡ child_first level first n → child ≡ code_of (code n) → ReadTo (read_code (read_pair child_level false) (8 ^ child_level) child left_at left) now after child_level child_at (Err e) → (read_children (read_pair level false) (8 ^ level) code 8 at bytes ≡ wrong (number_of e.reason) e.place) × Spared before after (first + 8 ^ level * 8)
+pub reached_wrong : (level : ℕ) (code : ℕ → ℕ) (at : ℕ) (bytes before now after : List ℕ) (first n left_at : ℕ) (left : List ℕ) (so_far : Reached (read_pair level false) (8 ^ level) code at bytes before now first n left_at left) (e : Refusal) (child_level child_at : ℕ) (child : Option State) → n < 8 → child_level ≡ level → child_at ≡ child_first level first n → child ≡ code_of (code n) → ReadTo (read_code (read_pair child_level false) (8 ^ child_level) child left_at left) now after child_level child_at (Err e) → (read_children (read_pair level false) (8 ^ level) code 8 at bytes ≡ wrong (number_of e.reason) e.place) × Spared before after (first + 8 ^ level * 8)
 reached_wrong level code at bytes before now after first n left_at left so_far e child_level child_at child few levels places codes done =
     let size = 8 ^ level in
     let got = refused_as (read_child (read_pair level false) size (code n) left_at left) now after level (child_first level first n) e (as_child level code at bytes before now after first n left_at left so_far (Err e) child_level child_at child levels places codes done) in
@@ -171,7 +169,7 @@ module _ (upper : ℕ) (root : Bool) (at : ℕ) (bytes before after : List ℕ) 
 -- a child with a pair of its own is no voxel
 pub above_voxels : (upper : ℕ) (root : Bool) (code : ℕ → ℕ) (j : ℕ) → 1 ≤ upper → j < 8 → None ≡ pair_fault upper root code → AboveVoxels (code_of (code j)) (upper - 1)
 above_voxels upper root code j above few fault =
-    cond_both (eqb (code j) 3) Mixed (Uniform (code_state (code j))) (λ c. AboveVoxels c (upper - 1))
+    cond_both (eqb (code j) 3) None (Some (code_state (code j))) (λ c. AboveVoxels c (upper - 1))
     (λ mixed. ⊎_elim
     (λ low. absurd (none_some 10 (fault ∙ fault_deep upper root code (and_from _ _ (eq-eqb upper 1 low) (some_has 8 (λ k. eqb (code k) 3) j few mixed)))))
     (λ high. omega arith)

@@ -1,13 +1,13 @@
 -- Two bits for a cube of voxels.
 use Rattle.std.specs.Prelude.{ℕ, ◌+◌, ◌-◌, ◌*◌, ◌/◌, ◌%◌, ◌^◌, Bool, cond, List, [], ◌∷◌, ◌==◌, nat_lt}
 use Rattle.voxels.specs.Bounded.{all}
+use Rattle.voxels.specs.Cells.{state_number}
 use Rattle.voxels.specs.declared.cells.State.{State}
 use Rattle.voxels.specs.declared.cells.State.TheVariants.{Unknown, Free, Occupied}
 
+-- a state's number: unknown 0, free 1, occupied 2
 abbrev pub state_code : State → ℕ
-state_code Unknown = 0
-state_code Free = 1
-state_code Occupied = 2
+state_code state = state_number state
 
 -- the state of a code that is not 3
 abbrev pub code_state : ℕ → State

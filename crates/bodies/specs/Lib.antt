@@ -4,5 +4,6 @@ pub mod Readings
 pub mod Theorems
 pub mod Reads
 pub mod Writes
+pub mod Branch
 pub mod Loads
 pub mod Verdicts

@@ -4,11 +4,9 @@ use Rattle.bodies.specs.Bodies.{map_body}
 use Rattle.bodies.specs.Codes.{code_state}
 use Rattle.bodies.specs.Readings.{read_body}
 use Rattle.bodies.specs.Theorems.{Writable, is_malformed, listed}
-use Rattle.bodies.specs.declared.loads.Loaded.{Loaded}
-use Rattle.bodies.specs.declared.loads.Placed.{Placed}
-use Rattle.bodies.specs.declared.loads.Placed.TheVariants.{Nothing, Skipped, Set}
-use Rattle.stores.specs.Sets.{is_open}
-use Rattle.stores.specs.Sweeps.{Figures, became, is_set, is_skipped, sweep_answer, swept}
+use Rattle.stores.specs.Shapes.{Shape}
+use Rattle.stores.specs.Sweeps.{sweep_answer, swept}
+use Rattle.stores.specs.declared.visits.Swept.{Swept}
 use Rattle.voxels.specs.Bounded.{count, some}
 use Rattle.voxels.specs.Cells.{highest, lowest, put}
 use Rattle.voxels.specs.Cubes.{blocks_needed}
@@ -49,70 +47,36 @@ abbrev pub is_known : Cell → Bool
 is_known Unknown = false
 is_known (Known v) = true
 
-abbrev pub told_load : Result Loaded Refusal → Told Figures
-told_load (Ok loaded) = taken (record { set = loaded.set; skipped = loaded.skipped })
-told_load (Err e) = refused (number_of e.reason) e.place
-
--- the cells are as they were
-abbrev Unchanged : (ℕ → Cell) → (ℕ → Cell) → Type 0
-Unchanged before after = (i : ℕ) → after i ≡ before i
-
--- what the placing of a voxel did that is to become this
-module _ (depth : ℕ) (closed : ℕ → Bool) (limit : ℕ) (before after : ℕ → Cell) (index : ℕ) (wanted : Option Cell) where
-  abbrev pub PlaceDone : Result Placed Refusal → Type 0
-  PlaceDone (Ok Nothing) = (is_some wanted ≡ false) × Unchanged before after
-  PlaceDone (Ok Skipped) = (is_some wanted ≡ true) × (is_open depth closed index ≡ false) × Unchanged before after
-  PlaceDone (Ok Set) = (is_some wanted ≡ true) × (is_open depth closed index ≡ true) × ((i : ℕ) → after i ≡ put before index (became wanted (before index)) i) × (blocks_needed depth (put before index (became wanted (before index))) ≤ limit)
-  PlaceDone (Err e) = (is_some wanted ≡ true) × (is_open depth closed index ≡ true) × (number_of e.reason ≡ 15) × (e.place ≡ index) × (limit < blocks_needed depth (put before index (became wanted (before index))))
-
--- what it adds to the figures
-abbrev pub set_by : Placed → ℕ
-set_by Nothing = 0
-set_by Skipped = 0
-set_by Set = 1
-
-abbrev pub skipped_by : Placed → ℕ
-skipped_by Nothing = 0
-skipped_by Skipped = 1
-skipped_by Set = 0
-
--- a sweep of what voxels are to become that has come to voxel n: what stands, that all before it fitted, and the figures so far
-pub record Placing (depth : ℕ) (closed : ℕ → Bool) (limit : ℕ) (wanted : ℕ → Option Cell) (cells now : ℕ → Cell) (n : ℕ) (loaded : Loaded) : Type 0 where
-  pub reached : (i : ℕ) → now i ≡ swept depth closed limit wanted cells n i
-  pub fitted : (m : ℕ) → m ≤ n → blocks_needed depth (swept depth closed limit wanted cells m) ≤ limit
-  pub sets : loaded.set ≡ count n (is_set depth closed limit wanted cells)
-  pub skips : loaded.skipped ≡ count n (is_skipped depth closed limit wanted cells)
-
-module _ (depth : ℕ) (closed : ℕ → Bool) (limit : ℕ) (cells : ℕ → Cell) where
+module _ (shape : Shape) (cells : ℕ → Cell) where
   -- what a load of a body that says this tells, and the cells afterwards
-  abbrev pub states_answer : Told (List State) → Told Figures
-  states_answer (taken states) = sweep_answer depth closed limit (wanted_by states) cells
+  abbrev pub states_answer : Told (List State) → Told Swept
+  states_answer (taken states) = sweep_answer shape (wanted_by states) cells
   states_answer (refused number place) = refused number place
 
   abbrev pub states_cells : Told (List State) → ℕ → Cell
-  states_cells (taken states) = swept depth closed limit (wanted_by states) cells (voxel_count depth)
+  states_cells (taken states) = swept shape (wanted_by states) cells (voxel_count shape.depth)
   states_cells (refused number place) = cells
 
   -- 8 where a cell is known, then what the body is refused by, then 15
-  abbrev pub body_answer : List ℕ → Told Figures
-  body_answer body = cond (some (voxel_count depth) (λ i. is_known (cells i))) (refused 8 0) (states_answer (read_body depth body))
+  abbrev pub body_answer : List ℕ → Told Swept
+  body_answer body = cond (some (voxel_count shape.depth) (λ i. is_known (cells i))) (refused 8 0) (states_answer (read_body shape.depth body))
 
   -- the answer with a page of so many words: 1 or 2 for the page, then as above
-  abbrev pub load_answer : ℕ → List ℕ → Told Figures
-  load_answer words body = over_page depth words (body_answer body)
+  abbrev pub load_answer : ℕ → List ℕ → Told Swept
+  load_answer words body = over_page shape.depth words (body_answer body)
 
   -- every open voxel of a known state set where the load was taken, else the cells as they were
-  abbrev pub load_cells : Told Figures → List ℕ → ℕ → Cell
-  load_cells (taken figures) body = states_cells (read_body depth body)
+  abbrev pub load_cells : Told Swept → List ℕ → ℕ → Cell
+  load_cells (taken figures) body = states_cells (read_body shape.depth body)
   load_cells (refused number place) body = cells
 
 -- a load into an empty map with a page that is long enough calls a body malformed exactly when no map of the depth writes it
-abbrev pub MalformedExactly : ℕ → (ℕ → Cell) → ℕ → List ℕ → Told Figures → Type 0
+abbrev pub MalformedExactly : ℕ → (ℕ → Cell) → ℕ → List ℕ → Told Swept → Type 0
 MalformedExactly depth cells words body told =
     1 ≤ depth → voxel_count depth ≤ words → ((i : ℕ) → cells i ≡ Unknown) →
     (is_malformed told ≡ true → Writable depth body → ⊥) × (is_malformed told ≡ false → Writable depth body)
 
 -- what a load took, skipping nothing, is written as the same bytes
-abbrev pub WritesSame : ℕ → (ℕ → Cell) → List ℕ → Told Figures → Type 0
+abbrev pub WritesSame : ℕ → (ℕ → Cell) → List ℕ → Told Swept → Type 0
 WritesSame depth after body (taken figures) = figures.skipped ≡ 0 → map_body depth after ≡ body
 WritesSame depth after body (refused number place) = Unit {0}

@@ -1,18 +1,16 @@
 -- What a read of bytes comes to in the program: what it tells, and the words that keep the states.
-use Rattle.std.specs.Prelude.{◌≡◌, ℕ, ◌+◌, ◌^◌, ◌<◌, ◌≤◌, cond, List, length, replicate, Ok, Err, Result, ◌==◌, slice_index}
+use Rattle.std.specs.Prelude.{◌≡◌, ℕ, ◌+◌, ◌^◌, ◌<◌, ◌≤◌, cond, List, length, replicate, Some, None, Ok, Err, Option, Result, ◌==◌, slice_index}
 use Rattle.bodies.specs.Codes.{code_state, state_code}
 use Rattle.bodies.specs.Readings.{Reading, read, wrong}
 use Rattle.bodies.specs.Theorems.{listed}
-use Rattle.bodies.specs.declared.codes.Code.{Code}
-use Rattle.bodies.specs.declared.codes.Code.TheVariants.{Uniform, Mixed}
 use Rattle.bodies.specs.declared.reader.Rest.{Rest}
 use Rattle.voxels.specs.Refusals.{Told, taken, refused, number_of}
 use Rattle.voxels.specs.declared.cells.State.{State}
 use Rattle.voxels.specs.declared.refusals.Refusal.{Refusal}
 
--- what two bits say of a cube
-abbrev pub code_of : ℕ → Code
-code_of code = cond (code == 3) Mixed (Uniform (code_state code))
+-- the state that two bits say of a cube's voxels; none where a pair of its own tells
+abbrev pub code_of : ℕ → Option State
+code_of code = cond (code == 3) None (Some (code_state code))
 
 -- the states stand at the words from `first` on, and no other word is changed; a state that there is no word for is left out
 pub record Kept (before after : List ℕ) (first : ℕ) (states : List State) : Type 0 where
@@ -27,14 +25,14 @@ pub record Spared (before after : List ℕ) (end : ℕ) : Type 0 where
   pub each : (i : ℕ) → end ≤ i → slice_index after i ≡ slice_index before i
 
 -- a child read by what its code says
-abbrev pub read_code : (ℕ → List ℕ → Reading) → ℕ → Code → ℕ → List ℕ → Reading
-read_code below size Mixed at bytes = below at bytes
-read_code below size (Uniform state) at bytes = read (replicate size state) at bytes
+abbrev pub read_code : (ℕ → List ℕ → Reading) → ℕ → Option State → ℕ → List ℕ → Reading
+read_code below size None at bytes = below at bytes
+read_code below size (Some state) at bytes = read (replicate size state) at bytes
 
 -- only a cube above the voxels can have a pair
-abbrev pub AboveVoxels : Code → ℕ → Type 0
-AboveVoxels Mixed level = 1 ≤ level
-AboveVoxels (Uniform state) level = Unit {0}
+abbrev pub AboveVoxels : Option State → ℕ → Type 0
+AboveVoxels None level = 1 ≤ level
+AboveVoxels (Some state) level = Unit {0}
 
 -- a cube's part of a body that was read: what is left, and the states in their words; or why it is malformed
 abbrev pub ReadTo : Reading → (before after : List ℕ) → (level first : ℕ) → Result Rest Refusal → Type 0

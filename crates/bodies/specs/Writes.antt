@@ -1,5 +1,5 @@
 -- What a write tells and leaves in the output.
-use Rattle.std.specs.Prelude.{ℕ, ◌+◌, ◌≤◌, cond, List, ◌++◌, length, take, drop, nat_lt, slice_index}
+use Rattle.std.specs.Prelude.{ℕ, ◌≤◌, cond, List, ◌++◌, length, drop, nat_lt, slice_index}
 use Rattle.bodies.specs.Bodies.{map_body}
 use Rattle.bodies.specs.Codes.{code_state}
 use Rattle.voxels.specs.Pages.{over_page}
@@ -15,9 +15,9 @@ Coded words = (i : ℕ) → slice_index words i ≤ 2
 abbrev pub word_states : List ℕ → ℕ → State
 word_states words i = code_state (slice_index words i)
 
--- bytes put into an output at a place
-abbrev pub put_at : List ℕ → ℕ → List ℕ → List ℕ
-put_at output at bytes = take at output ++ bytes ++ drop (at + length bytes) output
+-- bytes at the front of an output, with what was behind them
+abbrev pub at_front : List ℕ → List ℕ → List ℕ
+at_front bytes output = bytes ++ drop (length bytes) output
 
 -- 18 where the output is shorter than the body, else the body's length
 abbrev pub room_answer : ℕ → (ℕ → Cell) → ℕ → Told ℕ

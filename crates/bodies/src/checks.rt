@@ -13,7 +13,7 @@ pub fn check(depth: u8, body: &[u8]) -> Result<(), Refusal>
     ensures exact { ExactlyMaps depth body.now (told result) }
     ensures back { WritesBack depth body.now }
 {
-    if depth < 1 || depth > 5 {
+    if !(1..=5).contains(&depth) {
         return Err(Refusal {
             reason: Reason::NoMap,
             place: 0,

@@ -1,6 +1,6 @@
 ghost use Rattle.std.specs.Prelude.{◌≡◌, ◌<◌, not, ◌&&◌, ◌==◌, nat_eq};
 ghost use Rattle.std.specs.Option.{option_map};
-ghost use Rattle.bodies.specs.Codes.{child_code, code_state};
+ghost use Rattle.bodies.specs.Codes.{child_code};
 ghost use Rattle.bodies.specs.Readings.{pair_fault};
 ghost use Rattle.bodies.specs.Reads.{code_of};
 ghost use Rattle.voxels.specs.Bounded.{all, some};
@@ -10,13 +10,6 @@ use voxels::{Reason, State};
 
 // A child's bits where it has a pair of its own.
 pub const MIXED: u8 = 3;
-
-// What a pair says of a child: its voxels have one state, or a pair of its own tells.
-#[derive(Clone, Copy)]
-pub enum Code {
-    Uniform(State),
-    Mixed,
-}
 
 // Two bits for each of a cube's eight children.
 #[derive(Clone, Copy)]
@@ -38,27 +31,18 @@ impl Pair {
         }
     }
 
-    pub fn code(self, child: usize) -> Code
+    // The state of all of a child's voxels; none where a pair of its own tells.
+    pub fn state(self, child: usize) -> Option<State>
         requires { child < 8 }
         ensures { result ≡ code_of (child_code self.first self.second child) }
     {
-        match self.bits(child) {
-            0 => Code::Uniform(State::Unknown),
-            1 => Code::Uniform(State::Free),
-            2 => Code::Uniform(State::Occupied),
-            _ => Code::Mixed,
-        }
+        State::try_from(self.bits(child)).ok()
     }
 
     fn has_mixed(self) -> bool
         ensures { result ≡ some 8 (λ j. nat_eq (child_code self.first self.second j) 3) }
     {
-        for child in 0..8 {
-            if self.bits(child) == MIXED {
-                return true;
-            }
-        }
-        false
+        (0..8).any(|child| self.bits(child) == MIXED)
     }
 
     // The children make a uniform cube, which has no pair of its own.
@@ -66,12 +50,7 @@ impl Pair {
         ensures { result ≡ (not (child_code self.first self.second 0 == 3) && all 8 (λ j. nat_eq (child_code self.first self.second j) (child_code self.first self.second 0))) }
     {
         let bits = self.bits(0);
-        for child in 0..8 {
-            if self.bits(child) != bits {
-                return false;
-            }
-        }
-        bits != MIXED
+        bits != MIXED && (0..8).all(|child| self.bits(child) == bits)
     }
 
     // Why no body has the pair for a cube of that level.

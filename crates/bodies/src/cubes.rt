@@ -1,5 +1,8 @@
-ghost use Rattle.std.specs.Prelude.{◌≡◌, ◌+◌, ◌-◌, ◌^◌, ◌<◌, ◌≤◌};
+ghost use Rattle.std.specs.Prelude.{◌≡◌, ◌+◌, ◌-◌, ◌^◌, ◌<◌, ◌≤◌, replicate};
 ghost use Rattle.bodies.specs.Bodies.{child_first};
+ghost use Rattle.bodies.specs.Reads.{Kept};
+
+use voxels::State;
 
 // An aligned cube of a map: the 8 ^ level voxels from index `first` on.
 #[derive(Clone, Copy)]
@@ -27,7 +30,7 @@ impl Cube {
     pub fn size(self) -> usize
         ensures { result ≡ 8 ^ self.level }
     {
-        cube_size(self.level)
+        8usize.pow(u32::from(self.level))
     }
 
     // The cube of a child, from 0 to 7.
@@ -37,18 +40,18 @@ impl Cube {
         ensures level { result.level ≡ self.level - 1 }
         ensures first { result.first ≡ child_first (self.level - 1) self.first child }
     {
-        let level = self.level - 1;
         Cube {
-            level,
-            first: self.first + child * cube_size(level),
+            level: self.level - 1,
+            first: self.first + child * (self.size() / 8),
         }
     }
-}
 
-// The voxels of a cube of that level.
-fn cube_size(level: u8) -> usize
-    requires { level ≤ 5 }
-    ensures { result ≡ 8 ^ level }
-{
-    8usize.pow(u32::from(level))
+    // Gives its voxels a state, by its number in their words; those without a word are passed over.
+    pub fn fill(self, words: &mut [u16], state: State)
+        ensures { Kept words.old words.new self.first (replicate (8 ^ self.level) state) }
+    {
+        let end = (self.first + self.size()).min(words.len());
+        let start = self.first.min(end);
+        words[start..end].fill(state as u16);
+    }
 }

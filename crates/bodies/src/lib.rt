@@ -6,10 +6,10 @@ mod codes;
 mod cubes;
 mod loads;
 mod reader;
-mod states;
 mod writer;
 mod writes;
 
 pub use checks::{check, verdict};
-pub use loads::{Loaded, load};
+pub use loads::load;
+pub use stores::Swept as Loaded;
 pub use writes::write;

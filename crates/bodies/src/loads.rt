@@ -1,67 +1,50 @@
-ghost use Rattle.std.specs.Prelude.{◌≡◌, ℕ, ◌+◌, ◌<◌, ◌≤◌, length, slice_index};
-ghost use Rattle.bodies.specs.Loads.{MalformedExactly, PlaceDone, WritesSame, body_answer, is_known, load_answer, load_cells, set_by, skipped_by, told_load, word_cell, word_cells};
-ghost use Rattle.stores.specs.Sweeps.{sweep_answer, swept_cells};
+ghost use Rattle.std.specs.Prelude.{◌≡◌, ℕ, ◌≤◌, length, slice_index, refl};
+ghost use Rattle.bodies.specs.Loads.{MalformedExactly, WritesSame, body_answer, is_known, load_answer, load_cells, word_cell};
 ghost use Rattle.voxels.specs.Bounded.{some};
 ghost use Rattle.voxels.specs.Pages.{guarded, wiped};
+ghost use Rattle.voxels.specs.Refusals.{told};
 ghost use Rattle.voxels.specs.Space.{voxel_count};
-ghost use Rattle.voxels.specs.declared.cells.Cell.TheVariants.{Unknown};
 
 use crate::reader::read_body;
-use stores::Store;
+use stores::{Rule, Store, Swept, sweep};
 use voxels::{Cell, Reason, Refusal, WorkPage, check_page, voxel_count};
 
-// What a load came to: the known voxels set, and the closed ones skipped.
-#[derive(Clone, Copy)]
-pub struct Loaded {
-    pub set: u32,
-    pub skipped: u32,
-}
-
 // Loads a body into the empty map of a store, by way of a lent page. A refused load changes no cell.
-pub fn load<S: Store>(store: &mut S, page: &mut [u16], body: &[u8]) -> Result<Loaded, Refusal>
-    ensures answer { told_load result ≡ load_answer (S.shape store.old) (S.cell store.old) (length page.old) body.now }
-    ensures cells { (i : ℕ) → S.cell store.new i ≡ load_cells (S.shape store.old) (S.cell store.old) (told_load result) body.now i }
+pub fn load<S: Store>(store: &mut S, page: &mut [u16], body: &[u8]) -> Result<Swept, Refusal>
+    ensures answer { told result ≡ load_answer (S.shape store.old) (S.cell store.old) (length page.old) body.now }
+    ensures cells { (i : ℕ) → S.cell store.new i ≡ load_cells (S.shape store.old) (S.cell store.old) (told result) body.now i }
     ensures page { page.new ≡ wiped (guarded (S.shape store.old).depth page.old) page.old }
-    ensures exact { MalformedExactly (S.shape store.old).depth (S.cell store.old) (length page.old) body.now (told_load result) }
-    ensures same { WritesSame (S.shape store.old).depth (S.cell store.new) body.now (told_load result) }
+    ensures exact { MalformedExactly (S.shape store.old).depth (S.cell store.old) (length page.old) body.now (told result) }
+    ensures same { WritesSame (S.shape store.old).depth (S.cell store.new) body.now (told result) }
     ensures shape { S.shape store.new ≡ S.shape store.old }
 {
     let depth = store.depth();
-    if let Err(refusal) = check_page(depth, page.len()) {
-        return Err(refusal);
-    }
+    check_page(depth, page.len())?;
     let guard = WorkPage { words: page, depth };
     load_over(store, guard.words, body)
 }
 
-// The load itself, over words that somebody else wipes.
-fn load_over<S: Store>(store: &mut S, words: &mut [u16], body: &[u8]) -> Result<Loaded, Refusal>
-    requires some { 1 ≤ S.depth store.old }
-    requires long { voxel_count (S.shape store.old).depth ≤ length words.old }
-    ensures answer { told_load result ≡ body_answer (S.shape store.old) (S.cell store.old) body.now }
-    ensures cells { (i : ℕ) → S.cell store.new i ≡ load_cells (S.shape store.old) (S.cell store.old) (told_load result) body.now i }
-    ensures same { WritesSame (S.shape store.old).depth (S.cell store.new) body.now (told_load result) }
-    ensures rest { (k : ℕ) → voxel_count (S.shape store.old).depth ≤ k → slice_index words.new k ≡ slice_index words.old k }
+// The load itself, over a page that somebody else wipes.
+fn load_over<S: Store>(store: &mut S, page: &mut [u16], body: &[u8]) -> Result<Swept, Refusal>
+    requires some { 1 ≤ (S.shape store.old).depth }
+    requires long { voxel_count (S.shape store.old).depth ≤ length page.old }
+    ensures answer { told result ≡ body_answer (S.shape store.old) (S.cell store.old) body.now }
+    ensures cells { (i : ℕ) → S.cell store.new i ≡ load_cells (S.shape store.old) (S.cell store.old) (told result) body.now i }
+    ensures same { WritesSame (S.shape store.old).depth (S.cell store.new) body.now (told result) }
+    ensures rest { (k : ℕ) → voxel_count (S.shape store.old).depth ≤ k → slice_index page.new k ≡ slice_index page.old k }
     ensures shape { S.shape store.new ≡ S.shape store.old }
 {
     if any_known(store) {
-        return Err(Refusal {
-            reason: Reason::NotEmpty,
-            place: 0,
-        });
+        return Err(Reason::NotEmpty.into());
     }
-    match read_body(words, store.depth(), body) {
-        Ok(()) => place_states(store, words),
-        Err(refusal) => Err(refusal),
-    }
+    read_body(page, store.depth(), body)?;
+    sweep::<S, ByState>(store, page)
 }
 
-// What the placing of a voxel came to.
-#[derive(Clone, Copy)]
-enum Placed {
-    Nothing,
-    Skipped,
-    Set,
+fn any_known<S: Store>(store: &S) -> bool
+    ensures { result ≡ some (voxel_count (S.shape store.now).depth) (λ i. is_known (S.cell store.now i)) }
+{
+    (0..voxel_count(store.depth())).any(|index| store.read(index) != Cell::Unknown)
 }
 
 // What a load makes of a free voxel.
@@ -70,83 +53,19 @@ const FREE: i16 = -200;
 // What a load makes of an occupied voxel.
 const OCCUPIED: i16 = 350;
 
-// The cell that a voxel gets whose word has a state's code; none for unknown.
-fn cell_of(word: u16) -> Option<Cell>
-    ensures { result ≡ word_cell word }
-{
-    match word {
-        0 => None,
-        1 => Some(Cell::Known(FREE)),
-        _ => Some(Cell::Known(OCCUPIED)),
-    }
-}
+// A word with a state's code gives its voxel a cell of that state; unknown gives none.
+struct ByState;
 
-fn any_known<S: Store>(store: &S) -> bool
-    ensures { result ≡ some (voxel_count (S.shape store.now).depth) (λ i. is_known (S.cell store.now i)) }
-{
-    for index in 0..voxel_count(store.depth()) {
-        if let Cell::Known(_) = store.read(index) {
-            return true;
+impl Rule for ByState {
+    ghost wanted = { λ word _. word_cell word };
+
+    fn wanted(word: u16, _cell: Cell) -> Option<Cell> {
+        match word {
+            0 => None,
+            1 => Some(Cell::Known(FREE)),
+            _ => Some(Cell::Known(OCCUPIED)),
         }
     }
-    false
-}
 
-// Sets an open voxel to what its word says, and skips a closed one.
-fn place_voxel<S: Store>(store: &mut S, index: usize, word: u16) -> Result<Placed, Refusal>
-    ensures done { PlaceDone (S.shape store.old) (S.cell store.old) (S.cell store.new) index (word_cell word) result }
-    ensures shape { S.shape store.new ≡ S.shape store.old }
-{
-    let Some(cell) = cell_of(word) else {
-        return Ok(Placed::Nothing);
-    };
-    if !store.open(index) {
-        return Ok(Placed::Skipped);
-    }
-    match store.set(index, cell) {
-        Ok(()) => Ok(Placed::Set),
-        Err(refusal) => Err(refusal),
-    }
-}
-
-impl Loaded {
-    fn counting(self, placed: Placed) -> Loaded
-        requires { (self.set < 32768) × (self.skipped < 32768) }
-        ensures set { result.set ≡ self.set + set_by placed }
-        ensures skipped { result.skipped ≡ self.skipped + skipped_by placed }
-    {
-        match placed {
-            Placed::Nothing => self,
-            Placed::Skipped => Loaded {
-                set: self.set,
-                skipped: self.skipped + 1,
-            },
-            Placed::Set => Loaded {
-                set: self.set + 1,
-                skipped: self.skipped,
-            },
-        }
-    }
-}
-
-// Sets every open voxel of an empty map to what its word says, in rising index, and skips closed ones. Where a set is refused a clear takes all back.
-fn place_states<S: Store>(store: &mut S, words: &[u16]) -> Result<Loaded, Refusal>
-    requires some { 1 ≤ S.depth store.old }
-    requires long { voxel_count (S.shape store.old).depth ≤ length words.now }
-    requires empty { (i : ℕ) → S.cell store.old i ≡ Unknown }
-    ensures answer { told_load result ≡ sweep_answer (S.shape store.old).depth (S.closed store.old) (S.limit store.old) (word_cells words.now) (S.cell store.old) }
-    ensures cells { (i : ℕ) → S.cell store.new i ≡ swept_cells (S.shape store.old).depth (S.closed store.old) (S.limit store.old) (word_cells words.now) (S.cell store.old) (told_load result) i }
-    ensures shape { S.shape store.new ≡ S.shape store.old }
-{
-    let mut loaded = Loaded { set: 0, skipped: 0 };
-    for index in 0..voxel_count(store.depth()) {
-        match place_voxel(store, index, words[index]) {
-            Ok(placed) => loaded = loaded.counting(placed),
-            Err(refusal) => {
-                store.clear();
-                return Err(refusal);
-            }
-        }
-    }
-    Ok(loaded)
+    ghost silent = { λ cell. refl };
 }

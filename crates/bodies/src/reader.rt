@@ -2,10 +2,9 @@ ghost use Rattle.std.specs.Prelude.{◌≡◌, ◌+◌, ◌^◌, ◌≤◌, fals
 ghost use Rattle.bodies.specs.Readings.{read_body, read_pair};
 ghost use Rattle.bodies.specs.Reads.{AboveVoxels, BodyRead, ReadTo, read_code};
 
-use crate::codes::{Code, Pair};
+use crate::codes::Pair;
 use crate::cubes::Cube;
-use crate::states::fill;
-use voxels::{Reason, Refusal};
+use voxels::{Reason, Refusal, State};
 
 // The bytes of a body that are still to be read, and the place of the first of them.
 #[derive(Clone, Copy)]
@@ -21,18 +20,14 @@ pub fn read_body(words: &mut [u16], depth: u8, body: &[u8]) -> Result<(), Refusa
     ensures { BodyRead (read_body depth body.now) words.old words.new depth result }
 {
     let whole = Rest { bytes: body, at: 0 };
-    match read_pair(words, whole, Cube::root(depth), true) {
-        Ok(left) => {
-            if left.bytes.is_empty() {
-                Ok(())
-            } else {
-                Err(Refusal {
-                    reason: Reason::TrailingBytes,
-                    place: left.at,
-                })
-            }
-        }
-        Err(refusal) => Err(refusal),
+    let left = read_pair(words, whole, Cube::root(depth), true)?;
+    if left.bytes.is_empty() {
+        Ok(())
+    } else {
+        Err(Refusal {
+            reason: Reason::TrailingBytes,
+            place: left.at,
+        })
     }
 }
 
@@ -69,10 +64,7 @@ fn read_pair<'b>(
         at: body.at + 2,
     };
     for child in 0..8 {
-        match read_child(words, left, cube.child(child), pair.code(child)) {
-            Ok(next) => left = next,
-            Err(refusal) => return Err(refusal),
-        }
+        left = read_child(words, left, cube.child(child), pair.state(child))?;
     }
     Ok(left)
 }
@@ -83,17 +75,17 @@ fn read_child<'b>(
     words: &mut [u16],
     body: Rest<'b>,
     cube: Cube,
-    code: Code,
+    state: Option<State>,
 ) -> Result<Rest<'b>, Refusal>
-    requires above { AboveVoxels code cube.level }
+    requires above { AboveVoxels state cube.level }
     requires near { body.at + 8 ^ cube.level ≤ 32768 }
-    ensures { ReadTo (read_code (read_pair cube.level false) (8 ^ cube.level) code body.entry.at body.entry.bytes.now) words.old words.new cube.level cube.first result }
+    ensures { ReadTo (read_code (read_pair cube.level false) (8 ^ cube.level) state body.entry.at body.entry.bytes.now) words.old words.new cube.level cube.first result }
 {
-    match code {
-        Code::Uniform(state) => {
-            fill(words, cube.first, cube.size(), state);
+    match state {
+        Some(state) => {
+            cube.fill(words, state);
             Ok(body)
         }
-        Code::Mixed => read_pair(words, body, cube, false),
+        None => read_pair(words, body, cube, false),
     }
 }

@@ -1,99 +1,104 @@
 ghost use Rattle.std.specs.Prelude.{◌≡◌, ◌+◌, ◌-◌, ◌^◌, ◌<◌, ◌≤◌, length};
-ghost use Rattle.bodies.specs.Bodies.{body_of, child_codes};
-ghost use Rattle.bodies.specs.Codes.{byte_of, cube_code};
-ghost use Rattle.bodies.specs.Writes.{Coded, put_at, word_states};
+ghost use Rattle.bodies.specs.Bodies.{child_first};
+ghost use Rattle.bodies.specs.Codes.{byte_of};
+ghost use Rattle.bodies.specs.Writes.{Coded, at_front};
 
-use crate::codes::{Code, MIXED, Pair};
+use crate::codes::{MIXED, Pair};
 use crate::cubes::Cube;
 
-// The two bits of a cube. The words are the codes of the map's states.
-fn cube_bits(words: &[u16], cube: Cube) -> u8
-    requires coded { Coded words.now }
-    requires long { cube.first + 8 ^ cube.level ≤ length words.now }
-    ensures { result ≡ cube_code cube.level (word_states words.now) cube.first }
-{
-    let code = words[cube.first];
-    for i in cube.first..cube.first + cube.size() {
-        if words[i] != code {
-            return MIXED;
+// A cube above the voxels, with the words that have the codes of the map's states.
+#[derive(Clone, Copy)]
+pub struct Branch<'w> {
+    pub words: &'w [u16],
+    pub cube: Cube,
+    ghost coded: { Coded words.now },
+    ghost long: { cube.first + 8 ^ cube.level ≤ length words.now },
+    ghost above: { 1 ≤ cube.level },
+}
+
+impl<'w> Branch<'w> {
+    ghost use Rattle.bodies.specs.Branch.{branch_body, branch_code};
+
+    // The two bits of a child.
+    fn child_bits(self, child: usize) -> u8
+        requires { child < 8 }
+        ensures code { result ≡ branch_code self.entry child }
+        ensures small { result ≤ 3 }
+    {
+        let cube = self.cube.child(child);
+        let words = &self.words[cube.first..cube.first + cube.size()];
+        let code = words[0];
+        if words.iter().all(|word| *word == code) {
+            code as u8
+        } else {
+            MIXED
         }
     }
-    code as u8
-}
 
-// The two bits of a cube's child.
-fn child_bits(words: &[u16], cube: Cube, child: usize) -> u8
-    requires coded { Coded words.now }
-    requires long { cube.first + 8 ^ cube.level ≤ length words.now }
-    requires above { 1 ≤ cube.level }
-    requires one { child < 8 }
-    ensures code { result ≡ child_codes (cube.level - 1) (word_states words.now) cube.first child }
-    ensures small { result ≤ 3 }
-{
-    cube_bits(words, cube.child(child))
-}
-
-// The byte of four of a cube's children, the one from `child` on in the lowest bits.
-fn byte_at(words: &[u16], cube: Cube, child: usize) -> u8
-    requires coded { Coded words.now }
-    requires long { cube.first + 8 ^ cube.level ≤ length words.now }
-    requires above { 1 ≤ cube.level }
-    requires four { child + 4 ≤ 8 }
-    ensures { result ≡ byte_of (λ k. child_codes (cube.level - 1) (word_states words.now) cube.first (child + k)) }
-{
-    child_bits(words, cube, child)
-        + 4 * child_bits(words, cube, child + 1)
-        + 16 * child_bits(words, cube, child + 2)
-        + 64 * child_bits(words, cube, child + 3)
-}
-
-fn pair_of(words: &[u16], cube: Cube) -> Pair
-    requires coded { Coded words.now }
-    requires long { cube.first + 8 ^ cube.level ≤ length words.now }
-    requires above { 1 ≤ cube.level }
-    ensures first { result.first ≡ byte_of (child_codes (cube.level - 1) (word_states words.now) cube.first) }
-    ensures second { result.second ≡ byte_of (λ k. child_codes (cube.level - 1) (word_states words.now) cube.first (4 + k)) }
-{
-    Pair {
-        first: byte_at(words, cube, 0),
-        second: byte_at(words, cube, 4),
+    // The byte of four children, the one from `child` on in the lowest bits.
+    fn byte_at(self, child: usize) -> u8
+        requires { child + 4 ≤ 8 }
+        ensures { result ≡ byte_of (λ k. branch_code self.entry (child + k)) }
+    {
+        self.child_bits(child)
+            + 4 * self.child_bits(child + 1)
+            + 16 * self.child_bits(child + 2)
+            + 64 * self.child_bits(child + 3)
     }
-}
 
-// The bytes that the pair of a cube and all that is under it take.
-pub fn body_length(words: &[u16], cube: Cube) -> usize
-    requires coded { Coded words.now }
-    requires long { cube.first + 8 ^ cube.level ≤ length words.now }
-    requires above { 1 ≤ cube.level }
-    ensures { result ≡ length (body_of cube.level (word_states words.now) cube.first) }
-{
-    let pair = pair_of(words, cube);
-    let mut length = 2;
-    for child in 0..8 {
-        if let Code::Mixed = pair.code(child) {
-            length += body_length(words, cube.child(child));
+    fn pair(self) -> Pair
+        ensures first { result.first ≡ byte_of (branch_code self.entry) }
+        ensures second { result.second ≡ byte_of (λ k. branch_code self.entry (4 + k)) }
+    {
+        Pair {
+            first: self.byte_at(0),
+            second: self.byte_at(4),
         }
     }
-    length
-}
 
-// Writes the pair of a cube and all that is under it at a place of the output, and gives the place behind it.
-pub fn write_pair(words: &[u16], cube: Cube, output: &mut [u8], at: usize) -> usize
-    requires coded { Coded words.now }
-    requires long { cube.first + 8 ^ cube.level ≤ length words.now }
-    requires above { 1 ≤ cube.level }
-    requires room { at + length (body_of cube.level (word_states words.now) cube.first) ≤ length output.old }
-    ensures next { result ≡ at + length (body_of cube.level (word_states words.now) cube.first) }
-    ensures bytes { output.new ≡ put_at output.old at (body_of cube.level (word_states words.now) cube.first) }
-{
-    let pair = pair_of(words, cube);
-    output[at] = pair.first;
-    output[at + 1] = pair.second;
-    let mut next = at + 2;
-    for child in 0..8 {
-        if let Code::Mixed = pair.code(child) {
-            next = write_pair(words, cube.child(child), output, next);
+    // A child that has a pair of its own.
+    fn child(self, child: usize) -> Branch<'w>
+        requires one { child < 8 }
+        requires mixed { branch_code self child ≡ 3 }
+        ensures words { result.words.now ≡ self.entry.words.now }
+        ensures level { result.cube.level ≡ self.entry.cube.level - 1 }
+        ensures first { result.cube.first ≡ child_first (self.entry.cube.level - 1) self.entry.cube.first child }
+    {
+        Branch {
+            words: self.words,
+            cube: self.cube.child(child),
         }
     }
-    next
+
+    // The bytes that its pair and all that is under it take.
+    pub fn body_length(self) -> usize
+        ensures { result ≡ length (branch_body self.entry) }
+    {
+        let pair = self.pair();
+        let mut length = 2;
+        for child in 0..8 {
+            if pair.state(child).is_none() {
+                length += self.child(child).body_length();
+            }
+        }
+        length
+    }
+
+    // Writes its pair and all that is under it to the front of the output, and gives their length.
+    pub fn write_pair(self, output: &mut [u8]) -> usize
+        requires room { length (branch_body self) ≤ length output.old }
+        ensures length { result ≡ length (branch_body self.entry) }
+        ensures bytes { output.new ≡ at_front (branch_body self.entry) output.old }
+    {
+        let pair = self.pair();
+        output[0] = pair.first;
+        output[1] = pair.second;
+        let mut end = 2;
+        for child in 0..8 {
+            if pair.state(child).is_none() {
+                end += self.child(child).write_pair(&mut output[end..]);
+            }
+        }
+        end
+    }
 }

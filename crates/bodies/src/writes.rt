@@ -1,4 +1,4 @@
-ghost use Rattle.std.specs.Prelude.{◌≡◌, ℕ, ◌<◌, ◌≤◌, length, slice_index};
+ghost use Rattle.std.specs.Prelude.{◌≡◌, EachIndex, ℕ, ◌≤◌, length, slice_index};
 ghost use Rattle.bodies.specs.Codes.{state_code};
 ghost use Rattle.bodies.specs.Theorems.{OnlyStates, ReadsBack};
 ghost use Rattle.bodies.specs.Writes.{room_answer, write_answer, written};
@@ -8,8 +8,7 @@ ghost use Rattle.voxels.specs.Refusals.{told};
 ghost use Rattle.voxels.specs.Space.{voxel_count};
 
 use crate::cubes::Cube;
-use crate::states::state_code;
-use crate::writer::{body_length, write_pair};
+use crate::writer::Branch;
 use stores::Store;
 use voxels::{Reason, Refusal, WorkPage, check_page, voxel_count};
 
@@ -22,43 +21,40 @@ pub fn write<S: Store>(store: &S, page: &mut [u16], output: &mut [u8]) -> Result
     ensures only { OnlyStates (S.shape store.now).depth (S.cell store.now) }
 {
     let depth = store.depth();
-    if let Err(refusal) = check_page(depth, page.len()) {
-        return Err(refusal);
-    }
+    check_page(depth, page.len())?;
     let guard = WorkPage { words: page, depth };
     write_over(store, guard.words, output)
 }
 
 // The write itself, over words that somebody else wipes.
 fn write_over<S: Store>(store: &S, words: &mut [u16], output: &mut [u8]) -> Result<usize, Refusal>
-    requires some { 1 ≤ S.depth store.now }
+    requires some { 1 ≤ (S.shape store.now).depth }
     requires long { voxel_count (S.shape store.now).depth ≤ length words.old }
     ensures answer { told result ≡ room_answer (S.shape store.now).depth (S.cell store.now) (length output.old) }
     ensures bytes { output.new ≡ written (S.shape store.now).depth (S.cell store.now) output.old (told result) }
     ensures rest { (k : ℕ) → voxel_count (S.shape store.now).depth ≤ k → slice_index words.new k ≡ slice_index words.old k }
 {
     let depth = store.depth();
-    let count = voxel_count(depth);
-    keep_states(store, words);
-    let states = &words[..count];
-    let root = Cube::root(depth);
-    let length = body_length(states, root);
-    if output.len() < length {
+    let states = &mut words[..voxel_count(depth)];
+    keep_states(store, states);
+    let root = Branch {
+        words: states,
+        cube: Cube::root(depth),
+    };
+    if output.len() < root.body_length() {
         return Err(Refusal {
             reason: Reason::ShortOutput,
             place: 0,
         });
     }
-    Ok(write_pair(states, root, output, 0))
+    Ok(root.write_pair(output))
 }
 
 // Puts the code of each voxel's state into its word.
 fn keep_states<S: Store>(store: &S, words: &mut [u16])
-    requires long { voxel_count (S.shape store.now).depth ≤ length words.old }
-    ensures codes { (i : ℕ) → i < voxel_count (S.shape store.now).depth → slice_index words.new i ≡ state_code (state_of (S.cell store.now i)) }
-    ensures rest { (k : ℕ) → voxel_count (S.shape store.now).depth ≤ k → slice_index words.new k ≡ slice_index words.old k }
+    ensures { EachIndex words.new (λ i. slice_index words.new i ≡ state_code (state_of (S.cell store.now i))) }
 {
-    for index in 0..voxel_count(store.depth()) {
-        words[index] = state_code(store.read(index).state());
+    for (index, word) in words.iter_mut().enumerate() {
+        *word = store.read(index).state() as u16;
     }
 }

@@ -1,12 +1,20 @@
--- What a line says, by its letter; and a position, by its pieces.
-use Rattle.std.proofs.Common.{◌≡◌, ℕ, true, false, cond, eqb, List, ◌∷◌, length, Some, None, ap, ◌∙◌}
+-- What a line says, by its letter.
+use Rattle.std.proofs.Common.{◌≡◌, ℕ, true, false, cond, eqb, List, [], ◌∷◌, length, Some, None, Option, MatchOption, option_map, sym, ap, ◌∙◌}
 use Rattle.std.proofs.lemmas.List.{nil_from_length}
 use Rattle.std.proofs.lemmas.Bool.{ne_eqb}
-use Rattle.scans.specs.Texts.{said, origin, hit, far, end, with_numbers}
+use Rattle.voxels.specs.declared.space.Position.{Position}
+use Rattle.scans.specs.Lines.{said_by}
+use Rattle.scans.specs.Texts.{Said, said, origin, hit, far, end, pieces_from, position_of, with_numbers}
+use Rattle.scans.specs.declared.lines.Line.{Line}
 
 pub said_empty : (line : List ℕ) → length line ≡ 0 → said line ≡ None
 unfolding said
 said_empty line e = ap said (nil_from_length line e)
+
+-- a line that is made of the position behind its letter
+pub numbers_said : (says : Position → Said) (made : Position → Line) → ((p : Position) → said_by (made p) ≡ says p) → (rest : List ℕ) (o : Option Position) (r : Option Line) → o ≡ position_of (pieces_from 32 [] rest) → MatchOption o (r ≡ None) (λ p. r ≡ Some (made p)) → with_numbers says rest ≡ option_map said_by r
+numbers_said says made same rest None r is gives = ap (λ o. elim o as (λ _. Option Said) [ Some p ↦ Some (says p) | None ↦ None ]) (sym is) ∙ sym (ap (option_map said_by) gives)
+numbers_said says made same rest (Some p) r is gives = ap (λ o. elim o as (λ _. Option Said) [ Some p ↦ Some (says p) | None ↦ None ]) (sym is) ∙ sym (ap (option_map said_by) gives ∙ ap Some (same p))
 
 module _ (line rest : List ℕ) where
   pub said_origin : line ≡ 79 ∷ rest → said line ≡ with_numbers origin rest

@@ -1,6 +1,6 @@
 -- The marks after one line more.
-use Rattle.std.proofs.Common.{◌≡◌, ℕ, ◌*◌, ◌/◌, ◌<◌, ◌≤◌, Bool, true, false, cond, ◌&&◌, ◌||◌, ltb, leb, List, ◌∷◌, length, get_or, Some, None, refl, ap, ◌∙◌, ap₂, arith}
-use Rattle.std.proofs.lemmas.Bool.{and_from, and_left, and_parts, and_right, cond-false, le-leb, le-ltb, lt-ltb, ltb-true, not-false}
+use Rattle.std.proofs.Common.{◌≡◌, ℕ, ◌*◌, ◌/◌, ◌<◌, ◌≤◌, Bool, true, false, cond, ◌&&◌, ◌||◌, ltb, List, ◌∷◌, length, get_or, Some, None, refl, ap, ◌∙◌, ap₂, arith}
+use Rattle.std.proofs.lemmas.Bool.{and_from, and_parts, le-leb, lt-ltb, ltb-true, not-false}
 use Rattle.voxels.specs.Space.{in_map, side, voxel_at, voxel_count, voxel_of}
 use Rattle.voxels.specs.declared.space.Position.{Position}
 use Rattle.tracing.specs.Lines.{passes, same_voxel}
@@ -54,13 +54,6 @@ in_map_lem depth p inside =
 module _ (depth : ℕ) (o p : Position) (page : List ℕ) (long : voxel_count depth ≤ length page) where
   pub can_trace : outside depth o ≡ false → outside depth p ≡ false → traceable depth o p page ≡ true
   can_trace from to = and_from _ _ (and_from _ _ (in_map_lem depth o from) (in_map_lem depth p to)) (le-leb (voxel_count depth) (length page) long)
-
-  -- words past the map's stay
-  pub traced_rest : (k : ℕ) → voxel_count depth ≤ k → traced_word depth o p page k ≡ get_or page k 0
-  traced_rest k past = cond-false _ _ _ (and_right (traceable depth o p page) _ (and_left (ltb k (voxel_count depth)) _ (le-ltb k (voxel_count depth) past)))
-
-  pub ended_rest : (k : ℕ) → voxel_count depth ≤ k → ended_word depth p page k ≡ get_or page k 0
-  ended_rest k past = cond-false _ _ _ (and_right (leb (voxel_count depth) (length page)) _ (and_left (ltb k (voxel_count depth)) _ (le-ltb k (voxel_count depth) past)))
 
   pub ended_inside : (k : ℕ) → k < voxel_count depth → ended_word depth p page k ≡ cond (same_voxel (voxel_of p) (voxel_at depth k)) 2 (get_or page k 0)
   ended_inside k inside =

@@ -1,38 +1,11 @@
--- Numbers and positions, by their digits and pieces.
-use Rattle.std.proofs.Common.{◌≡◌, ℕ, ◌+◌, ◌-◌, ◌*◌, ◌<◌, ◌≤◌, Bool, true, false, cond, not, ◌&&◌, ◌||◌, eqb, leb, List, [], ◌∷◌, length, get_or, drop, Some, None, fold, Option, sym, refl, ap, ◌∙◌, ⊎_elim, arith}
-use Rattle.std.proofs.lemmas.List.{at_drop_more, nil_from_length}
-use Rattle.std.proofs.lemmas.Bool.{le-leb, ne_eqb, eq-eqb, cases_eq, or_left, or_right, not_from_false}
+-- Positions, by the pieces of their bytes.
+use Rattle.std.proofs.Common.{◌≡◌, ◌≢◌, ℕ, Bool, true, false, cond, ◌&&◌, List, [], ◌∷◌, ◌++◌, length, Some, None, Option, sym, refl, ap, ◌∙◌, ⊎_elim, append_assoc, append-nil, arith}
+use Rattle.std.specs.List.{All}
+use Rattle.std.proofs.lemmas.Bool.{and_left, and_right, cases_eq, cond-false, ne_eqb}
 use Rattle.voxels.specs.declared.space.Position.{Position}
-use Rattle.scans.specs.Texts.{is_digit, all_digits, is_number, decimal, position_of}
-use Rattle.scans.specs.Lines.{number_in}
-
-both_true : (p q r : Bool) → q ≡ true → r ≡ true → ((p && q) && r) ≡ p
-both_true true q r e f = rw (e, f)
-both_true false q r e f = refl
-
--- of one to four bytes that do not begin with a 0 in front of others only the digits are left to ask
-pub is_number_lem : (digits : List ℕ) → (length digits ≡ 0 → ⊥) → length digits ≤ 4 → (1 < length digits → get_or digits 0 0 ≡ 48 → ⊥) → is_number digits ≡ all_digits digits
-is_number_lem [] some few lead = absurd (some refl)
-is_number_lem (c ∷ cs) some few lead =
-    both_true (all_digits (c ∷ cs)) (leb (length cs) 3) (not (eqb c 48) || eqb (length cs) 0)
-    (le-leb (length cs) 3 (omega arith))
-    (⊎_elim
-    (λ none. or_right (not (eqb c 48)) (eqb (length cs) 0) (eq-eqb (length cs) 0 none))
-    (λ more. or_left (not (eqb c 48)) (eqb (length cs) 0) (not_from_false (eqb c 48) (ne_eqb c 48 (λ zero. lead (omega (arith, more)) zero))))
-    (cases_eq (length cs) 0))
-
-abbrev grown : ℕ → ℕ → ℕ
-grown n c = 10 * n + (c - 48)
-
-module _ (digits : List ℕ) (i : ℕ) (inside : i < length digits) where
-  pub digits_on : is_digit (get_or digits i 0) ≡ true → all_digits (drop i digits) ≡ all_digits (drop (i + 1) digits)
-  digits_on e = at_drop_more all_digits digits i 0 inside ∙ ap (λ t. t && all_digits (drop (i + 1) digits)) e
-
-  pub digits_not : is_digit (get_or digits i 0) ≡ false → all_digits (drop i digits) ≡ false
-  digits_not e = at_drop_more all_digits digits i 0 inside ∙ ap (λ t. t && all_digits (drop (i + 1) digits)) e
-
-  pub decimal_on : (value : ℕ) → fold (λ n c. 10 * n + (c - 48)) value (drop i digits) ≡ fold (λ n c. 10 * n + (c - 48)) (10 * value + (get_or digits i 0 - 48)) (drop (i + 1) digits)
-  decimal_on value = at_drop_more (fold (λ n c. 10 * n + (c - 48)) value) digits i 0 inside
+use Rattle.scans.specs.Lines.{CutAt, number_in}
+use Rattle.scans.specs.Texts.{all_digits, decimal, is_digit, is_number, pieces_from, position_of}
+use Rattle.scans.proofs.Pieces.{first_piece, pieces_cut, pieces_end, pieces_none, pieces_past}
 
 -- three numbers, where each is one
 abbrev pub together : Option ℕ → Option ℕ → Option ℕ → Option Position
@@ -47,41 +20,67 @@ by_tests true false r x y z = refl
 by_tests true true false x y z = refl
 by_tests true true true x y z = refl
 
-pub position_from : (pieces : List (List ℕ)) (a x y z : List ℕ) → pieces ≡ a ∷ x ∷ y ∷ z ∷ [] → length a ≡ 0 → position_of pieces ≡ together (number_in x) (number_in y) (number_in z)
-position_from pieces a x y z e none =
-    ap position_of (e ∙ ap (λ front. front ∷ x ∷ y ∷ z ∷ []) (nil_from_length a none)) ∙ by_tests (is_number x) (is_number y) (is_number z) (decimal x) (decimal y) (decimal z)
+without_last : (u v : Option ℕ) → together u v None ≡ None
+without_last None v = refl
+without_last (Some x) None = refl
+without_last (Some x) (Some y) = refl
 
-pub position_ahead : (a : List ℕ) (pieces : List (List ℕ)) → (length a ≡ 0 → ⊥) → position_of (a ∷ pieces) ≡ None
-position_ahead a [] some = refl
-position_ahead a (x ∷ []) some = refl
-position_ahead a (x ∷ y ∷ []) some = refl
-position_ahead a (x ∷ y ∷ z ∷ []) some = let none = ne_eqb (length a) 0 some in rw none
-position_ahead a (x ∷ y ∷ z ∷ more ∷ rest) some = refl
+-- bytes with a space among them are no number
+digits_spaced : (front rest : List ℕ) → all_digits (front ++ 32 ∷ rest) ≡ false
+digits_spaced [] rest = refl
+digits_spaced (c ∷ cs) rest = and_right (is_digit c) (all_digits (cs ++ 32 ∷ rest)) (digits_spaced cs rest)
 
-module _ (u v w : Option ℕ) where
-  pub without_x : None ≡ u → together u v w ≡ None
-  without_x e = ap (λ o. together o v w) (sym e)
+number_spaced : (bytes : List ℕ) → all_digits bytes ≡ false → number_in bytes ≡ None
+number_spaced [] none = refl
+number_spaced (c ∷ cs) none = let is_not : is_number (c ∷ cs) ≡ false = and_left _ _ (and_left _ _ none) in cond-false (is_number (c ∷ cs)) (Some (decimal (c ∷ cs))) None is_not
 
-  pub without_y : (x : ℕ) → Some x ≡ u → None ≡ v → together u v w ≡ None
-  without_y x e f = ap (λ o. together o v w) (sym e) ∙ ap (λ o. together (Some x) o w) (sym f)
+-- a position has nothing in front of its first space
+position_ahead : (b : ℕ) (more : List ℕ) (others : List (List ℕ)) → position_of ((b ∷ more) ∷ others) ≡ None
+position_ahead b more [] = refl
+position_ahead b more (x ∷ []) = refl
+position_ahead b more (x ∷ y ∷ []) = refl
+position_ahead b more (x ∷ y ∷ z ∷ []) = cond-false _ _ None (and_left _ _ (ne_eqb (length (b ∷ more)) 0 (λ none. omega arith)))
+position_ahead b more (x ∷ y ∷ z ∷ another ∷ rest) = refl
 
-  pub without_z : (x y : ℕ) → Some x ≡ u → Some y ≡ v → None ≡ w → together u v w ≡ None
-  without_z x y e f g =
-      ap (λ o. together o v w) (sym e) ∙ ap (λ o. together (Some x) o w) (sym f) ∙ ap (λ o. together (Some x) (Some y) o) (sym g)
+-- a last piece that spaces cut further is no number, so that there are three numbers or no position
+three : (x y done z : List ℕ) → position_of ([] ∷ x ∷ y ∷ pieces_from 32 done z) ≡ together (number_in x) (number_in y) (number_in (done ++ z))
+unfolding pieces_from
+three x y done [] =
+    by_tests (is_number x) (is_number y) (is_number done) (decimal x) (decimal y) (decimal done)
+    ∙ ap (λ d. together (number_in x) (number_in y) (number_in d)) (sym (append-nil done))
+three x y done (b ∷ bs) =
+    ⊎_elim
+    (λ (space : b ≡ 32).
+    let next = first_piece 32 [] bs in
+    let cut = ap (λ c. pieces_from 32 done (c ∷ bs)) space ∙ pieces_end 32 done bs ∙ ap (λ ps. done ∷ ps) next.2 in
+    let none : number_in (done ++ b ∷ bs) ≡ None = ap (λ c. number_in (done ++ c ∷ bs)) space ∙ number_spaced (done ++ 32 ∷ bs) (digits_spaced done bs) in
+    ap (λ ps. position_of ([] ∷ x ∷ y ∷ ps)) cut ∙ sym (ap (together (number_in x) (number_in y)) none ∙ without_last (number_in x) (number_in y)))
+    (λ (other : b ≢ 32).
+    ap (λ ps. position_of ([] ∷ x ∷ y ∷ ps)) (pieces_past 32 done bs b other)
+    ∙ three x y (done ++ b ∷ []) bs
+    ∙ ap (λ d. together (number_in x) (number_in y) (number_in d)) (append_assoc done (b ∷ []) bs))
+    (cases_eq b 32)
 
-  pub with_all : (x y z : ℕ) → Some x ≡ u → Some y ≡ v → Some z ≡ w → together u v w ≡ Some record { x = x; y = y; z = z }
-  with_all x y z e f g =
-      ap (λ o. together o v w) (sym e) ∙ ap (λ o. together (Some x) o w) (sym f) ∙ ap (λ o. together (Some x) (Some y) o) (sym g)
+-- bytes that begin with anything but a space
+pub not_behind_space : (numbers : List ℕ) → ((rest : List ℕ) → numbers ≢ 32 ∷ rest) → position_of (pieces_from 32 [] numbers) ≡ None
+unfolding pieces_from
+not_behind_space [] other = refl
+not_behind_space (b ∷ bs) other =
+    let first = first_piece 32 (b ∷ []) bs in
+    ap position_of (pieces_past 32 [] bs b (λ space. other bs (ap (λ c. c ∷ bs) space)) ∙ first.2) ∙ position_ahead b first.0 first.1
 
-module _ {p q : List (List ℕ)} {a : List ℕ} (one : p ≡ a ∷ q) where
-  pub two_pieces : {x : List ℕ} → q ≡ x ∷ [] → position_of p ≡ None
-  two_pieces {x} two = let all : p ≡ a ∷ x ∷ [] = cc in ap position_of all
+module _ (numbers rest : List ℕ) (behind : numbers ≡ 32 ∷ rest) where
+  space_first : pieces_from 32 [] numbers ≡ [] ∷ pieces_from 32 [] rest
+  space_first = ap (pieces_from 32 []) behind ∙ pieces_end 32 [] rest
 
-  pub three_pieces : {r : List (List ℕ)} {x y : List ℕ} → q ≡ x ∷ r → r ≡ y ∷ [] → position_of p ≡ None
-  three_pieces {r} {x} {y} two three = let all : p ≡ a ∷ x ∷ y ∷ [] = cc in ap position_of all
+  pub one_piece : All (λ b. b ≢ 32) rest → position_of (pieces_from 32 [] numbers) ≡ None
+  one_piece other = ap position_of (space_first ∙ ap (λ ps. [] ∷ ps) (pieces_none 32 rest other))
 
-  pub more_pieces : {r s t u : List (List ℕ)} {x y z m : List ℕ} → q ≡ x ∷ r → r ≡ y ∷ s → s ≡ z ∷ t → t ≡ m ∷ u → position_of p ≡ None
-  more_pieces {r} {s} {t} {u} {x} {y} {z} {m} two three four five = let all : p ≡ a ∷ x ∷ y ∷ z ∷ m ∷ u = cc in ap position_of all
+  module _ (x behind_x : List ℕ) (first : CutAt 32 rest x behind_x) where
+    pub two_pieces : All (λ b. b ≢ 32) behind_x → position_of (pieces_from 32 [] numbers) ≡ None
+    two_pieces other = ap position_of (space_first ∙ ap (λ ps. [] ∷ ps) (pieces_cut 32 rest x behind_x first ∙ ap (λ ps. x ∷ ps) (pieces_none 32 behind_x other)))
 
-  pub four_pieces : {r s : List (List ℕ)} {x y z : List ℕ} → q ≡ x ∷ r → r ≡ y ∷ s → s ≡ z ∷ [] → length a ≡ 0 → position_of p ≡ together (number_in x) (number_in y) (number_in z)
-  four_pieces {r} {s} {x} {y} {z} two three four none = let all : p ≡ a ∷ x ∷ y ∷ z ∷ [] = cc in position_from p a x y z all none
+    pub three_pieces : (y z : List ℕ) → CutAt 32 behind_x y z → position_of (pieces_from 32 [] numbers) ≡ together (number_in x) (number_in y) (number_in z)
+    three_pieces y z second =
+        ap position_of (space_first ∙ ap (λ ps. [] ∷ ps) (pieces_cut 32 rest x behind_x first ∙ ap (λ ps. x ∷ ps) (pieces_cut 32 behind_x y z second)))
+        ∙ three x y [] z

@@ -1,73 +1,68 @@
--- Lines and pieces from a place of the bytes on, one byte further.
-use Rattle.std.proofs.Common.{◌≡◌, ℕ, ◌+◌, ◌-◌, ◌<◌, ◌≤◌, Bool, true, false, eqb, List, [], ◌∷◌, ◌++◌, length, get_or, take, drop, sym, refl, ap, ◌∙◌, arith}
-use Rattle.std.proofs.lemmas.List.{at_drop_more, drop_all}
-use Rattle.std.proofs.lemmas.List.Edits.{between_more}
-use Rattle.std.proofs.lemmas.Slice.{between_to_end}
-use Rattle.std.proofs.lemmas.Bool.{eq-eqb, ne_eqb}
-use Rattle.scans.specs.Texts.{lines_from, pieces_from}
+-- The lines and the pieces of bytes that are cut at their first line feed or space.
+use Rattle.std.proofs.Common.{◌≡◌, ◌≢◌, ℕ, List, [], ◌∷◌, ◌++◌, sym, refl, ap, ◌∙◌, ⊎_elim, append_assoc, append-nil}
+use Rattle.std.specs.List.{All}
+use Rattle.std.proofs.lemmas.Bool.{cases_eq, eq-eqb, ne_eqb}
+use Rattle.std.proofs.lemmas.List.Elements.{All-head, All-tail}
+use Rattle.scans.specs.Lines.{CutAt}
+use Rattle.scans.specs.Texts.{lines_from, lines_of, pieces_from}
 
-line_past : (done rest : List ℕ) (b : ℕ) → eqb b 10 ≡ false → lines_from done (b ∷ rest) ≡ lines_from (done ++ b ∷ []) rest
+-- what ends a part at each byte c, and goes on over any other
+module _ (c : ℕ) (parts : List ℕ → List ℕ → List (List ℕ))
+    (ends : (done rest : List ℕ) → parts done (c ∷ rest) ≡ done ∷ parts [] rest)
+    (past : (done rest : List ℕ) (b : ℕ) → b ≢ c → parts done (b ∷ rest) ≡ parts (done ++ b ∷ []) rest) where
+  parts_cut : (done before behind : List ℕ) → All (λ b. b ≢ c) before → parts done (before ++ c ∷ behind) ≡ (done ++ before) ∷ parts [] behind
+  parts_cut done [] behind other = ends done behind ∙ ap (λ d. d ∷ parts [] behind) (sym (append-nil done))
+  parts_cut done (b ∷ bs) behind other =
+      past done (bs ++ c ∷ behind) b (All-head (λ b. b ≢ c) b bs other)
+      ∙ parts_cut (done ++ b ∷ []) bs behind (All-tail (λ b. b ≢ c) b bs other)
+      ∙ ap (λ d. d ∷ parts [] behind) (append_assoc done (b ∷ []) bs)
+
+  parts_whole : (done bytes : List ℕ) → All (λ b. b ≢ c) bytes → parts done bytes ≡ parts (done ++ bytes) []
+  parts_whole done [] other = ap (λ d. parts d []) (sym (append-nil done))
+  parts_whole done (b ∷ bs) other =
+      past done bs b (All-head (λ b. b ≢ c) b bs other)
+      ∙ parts_whole (done ++ b ∷ []) bs (All-tail (λ b. b ≢ c) b bs other)
+      ∙ ap (λ d. parts d []) (append_assoc done (b ∷ []) bs)
+
+lines_end : (done rest : List ℕ) → lines_from done (10 ∷ rest) ≡ done ∷ lines_from [] rest
 unfolding lines_from
-line_past done rest b e = ap (λ t. elim t as (λ _. List (List ℕ)) [ true ↦ done ∷ lines_from [] rest | false ↦ lines_from (done ++ b ∷ []) rest ]) e
+lines_end done rest = refl
 
-line_ends : (done rest : List ℕ) (b : ℕ) → eqb b 10 ≡ true → lines_from done (b ∷ rest) ≡ done ∷ lines_from [] rest
+lines_past : (done rest : List ℕ) (b : ℕ) → b ≢ 10 → lines_from done (b ∷ rest) ≡ lines_from (done ++ b ∷ []) rest
 unfolding lines_from
-line_ends done rest b e = ap (λ t. elim t as (λ _. List (List ℕ)) [ true ↦ done ∷ lines_from [] rest | false ↦ lines_from (done ++ b ∷ []) rest ]) e
+lines_past done rest b other = let e = ne_eqb b 10 other in rw (e, lines_from)
 
-piece_past : (c : ℕ) (done rest : List ℕ) (b : ℕ) → eqb b c ≡ false → pieces_from c done (b ∷ rest) ≡ pieces_from c (done ++ b ∷ []) rest
-unfolding pieces_from
-piece_past c done rest b e = ap (λ t. elim t as (λ _. List (List ℕ)) [ true ↦ done ∷ pieces_from c [] rest | false ↦ pieces_from c (done ++ b ∷ []) rest ]) e
+pub lines_cut : (bytes before behind : List ℕ) → CutAt 10 bytes before behind → lines_of bytes ≡ before ∷ lines_of behind
+lines_cut bytes before behind cut = ap lines_of cut.0 ∙ parts_cut 10 lines_from lines_end lines_past [] before behind cut.1
 
-piece_ends : (c : ℕ) (done rest : List ℕ) (b : ℕ) → eqb b c ≡ true → pieces_from c done (b ∷ rest) ≡ done ∷ pieces_from c [] rest
-unfolding pieces_from
-piece_ends c done rest b e = ap (λ t. elim t as (λ _. List (List ℕ)) [ true ↦ done ∷ pieces_from c [] rest | false ↦ pieces_from c (done ++ b ∷ []) rest ]) e
-
-module _ (text : List ℕ) (at i : ℕ) (from : at ≤ i) (inside : i < length text) where
-  pub lines_on : (get_or text i 0 ≡ 10 → ⊥) → lines_from (take (i - at) (drop at text)) (drop i text) ≡ lines_from (take (i + 1 - at) (drop at text)) (drop (i + 1) text)
-  lines_on other =
-      at_drop_more (lines_from (take (i - at) (drop at text))) text i 0 inside
-      ∙ line_past (take (i - at) (drop at text)) (drop (i + 1) text) (get_or text i 0) (ne_eqb (get_or text i 0) 10 other)
-      ∙ ap (λ done. lines_from done (drop (i + 1) text)) (sym (between_more text at i 0 from inside))
-
-  pub lines_here : get_or text i 0 ≡ 10 → lines_from (take (i - at) (drop at text)) (drop i text) ≡ take (i - at) (drop at text) ∷ lines_from [] (drop (i + 1) text)
-  lines_here feed =
-      at_drop_more (lines_from (take (i - at) (drop at text))) text i 0 inside
-      ∙ line_ends (take (i - at) (drop at text)) (drop (i + 1) text) (get_or text i 0) (eq-eqb (get_or text i 0) 10 feed)
-
-  pub pieces_on : (c : ℕ) → (get_or text i 0 ≡ c → ⊥) → pieces_from c (take (i - at) (drop at text)) (drop i text) ≡ pieces_from c (take (i + 1 - at) (drop at text)) (drop (i + 1) text)
-  pieces_on c other =
-      at_drop_more (pieces_from c (take (i - at) (drop at text))) text i 0 inside
-      ∙ piece_past c (take (i - at) (drop at text)) (drop (i + 1) text) (get_or text i 0) (ne_eqb (get_or text i 0) c other)
-      ∙ ap (λ done. pieces_from c done (drop (i + 1) text)) (sym (between_more text at i 0 from inside))
-
-  pub pieces_here : (c : ℕ) → get_or text i 0 ≡ c → pieces_from c (take (i - at) (drop at text)) (drop i text) ≡ take (i - at) (drop at text) ∷ pieces_from c [] (drop (i + 1) text)
-  pieces_here c ends =
-      at_drop_more (pieces_from c (take (i - at) (drop at text))) text i 0 inside
-      ∙ piece_ends c (take (i - at) (drop at text)) (drop (i + 1) text) (get_or text i 0) (eq-eqb (get_or text i 0) c ends)
-
--- nothing is left behind the last place
-pub lines_end : (text done : List ℕ) (i : ℕ) → length text ≤ i → lines_from done (drop i text) ≡ []
+pub lines_none : (bytes : List ℕ) → All (λ b. b ≢ 10) bytes → lines_of bytes ≡ []
 unfolding lines_from
-lines_end text done i past = ap (lines_from done) (drop_all i text past)
+lines_none bytes other = parts_whole 10 lines_from lines_end lines_past [] bytes other
 
-pub pieces_end : (text done : List ℕ) (c i : ℕ) → length text ≤ i → pieces_from c done (drop i text) ≡ done ∷ []
-unfolding pieces_from
-pieces_end text done c i past = ap (pieces_from c done) (drop_all i text past)
+module _ (c : ℕ) where
+  pub pieces_end : (done rest : List ℕ) → pieces_from c done (c ∷ rest) ≡ done ∷ pieces_from c [] rest
+  unfolding pieces_from
+  pieces_end done rest = let e = eq-eqb c c refl in rw (e, pieces_from)
 
--- a part with nothing in it
-pub part_none : (text : List ℕ) (at : ℕ) → take (at - at) (drop at text) ≡ []
-part_none text at = let none : at - at ≡ 0 = omega arith in ap (λ n. take n (drop at text)) none
+  pub pieces_past : (done rest : List ℕ) (b : ℕ) → b ≢ c → pieces_from c done (b ∷ rest) ≡ pieces_from c (done ++ b ∷ []) rest
+  unfolding pieces_from
+  pieces_past done rest b other = let e = ne_eqb b c other in rw (e, pieces_from)
 
--- a part as far as the end
-pub part_rest : (text : List ℕ) (at i : ℕ) → length text ≤ i → take (i - at) (drop at text) ≡ drop at text
-part_rest text at i past = between_to_end text at i past
+  pub pieces_cut : (bytes before behind : List ℕ) → CutAt c bytes before behind → pieces_from c [] bytes ≡ before ∷ pieces_from c [] behind
+  pieces_cut bytes before behind cut = ap (pieces_from c []) cut.0 ∙ parts_cut c (pieces_from c) pieces_end pieces_past [] before behind cut.1
 
--- there is always a first piece
-pub some_piece : (c : ℕ) (done text : List ℕ) → (first : List ℕ) × (others : List (List ℕ)) × (pieces_from c done text ≡ first ∷ others)
-unfolding pieces_from
-some_piece c done [] = (done, [], refl)
-some_piece c done (b ∷ rest) = by_test (eqb b c) refl (some_piece c (done ++ b ∷ []) rest)
-  where
-    by_test : (t : Bool) → eqb b c ≡ t → (first : List ℕ) × (others : List (List ℕ)) × (pieces_from c (done ++ b ∷ []) rest ≡ first ∷ others) → (first : List ℕ) × (others : List (List ℕ)) × (pieces_from c done (b ∷ rest) ≡ first ∷ others)
-    by_test true e further = (done, pieces_from c [] rest, piece_ends c done rest b e)
-    by_test false e further = (further.0, further.1, piece_past c done rest b e ∙ further.2)
+  pub pieces_none : (bytes : List ℕ) → All (λ b. b ≢ c) bytes → pieces_from c [] bytes ≡ bytes ∷ []
+  unfolding pieces_from
+  pieces_none bytes other = parts_whole c (pieces_from c) pieces_end pieces_past [] bytes other
+
+  -- there is a first piece, and it goes on where what is done ends
+  pub first_piece : (done bytes : List ℕ) → (more : List ℕ) × (others : List (List ℕ)) × (pieces_from c done bytes ≡ (done ++ more) ∷ others)
+  unfolding pieces_from
+  first_piece done [] = ([], [], ap (λ d. d ∷ []) (sym (append-nil done)))
+  first_piece done (b ∷ bs) =
+      ⊎_elim
+      (λ (is : b ≡ c). ([], pieces_from c [] bs, ap (λ a. pieces_from c done (a ∷ bs)) is ∙ pieces_end done bs ∙ ap (λ d. d ∷ pieces_from c [] bs) (sym (append-nil done))))
+      (λ (other : b ≢ c).
+      let rest = first_piece (done ++ b ∷ []) bs in
+      (b ∷ rest.0, rest.1, pieces_past done bs b other ∙ rest.2 ∙ ap (λ d. d ∷ rest.1) (append_assoc done (b ∷ []) rest.0)))
+      (cases_eq b c)

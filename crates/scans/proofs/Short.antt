@@ -19,10 +19,10 @@ piece_bytes_lem c done (b ∷ rest) = by_test (eqb b c) (piece_bytes_lem c [] re
     by_test false begun on = omega (arith, on, length-append done (b ∷ []))
 
 never : {A : Type 0} {x : A} {P : Type 0} → ◌≡◌ {A = Option A} None (Some x) → P
-never e = absurd (let z : ◌≡◌ {A = ℕ} 0 1 = cc in omega arith)
+never e = absurd (cc)
 
 number_short : (digits : List ℕ) → is_number digits ≡ true → length digits ≤ 4
-number_short [] is = absurd (let z : ◌≡◌ {A = ℕ} 0 1 = cc in omega arith)
+number_short [] is = absurd (cc)
 number_short (c ∷ cs) is =
     let few = (and_parts (all_digits (c ∷ cs)) (leb (length cs) 3) (and_parts (all_digits (c ∷ cs) && leb (length cs) 3) (not (eqb c 48) || eqb (length cs) 0) is).0).1 in
     omega (arith, leb-true (length cs) 3 few)

@@ -1,99 +1,69 @@
-ghost use Rattle.std.specs.Prelude.{◌≡◌, ◌≤◌, [], length, None, MatchOption};
-ghost use Rattle.scans.specs.Lines.{FirstLine, FirstPiece, number_in, said_by};
+ghost use Rattle.std.specs.Prelude.{◌≡◌, ◌≢◌, [], MatchOption, option_map};
+ghost use Rattle.std.specs.List.{All};
+ghost use Rattle.scans.specs.Lines.{CutAt, number_in, said_by};
 ghost use Rattle.scans.specs.Texts.{pieces_from, position_of, said};
 
 use voxels::Position;
 
-// A line by its letter, with the part of the text that holds its numbers.
+// What a line says: where the scan stood, a return line's end and whether something was hit there, or that no line follows.
 #[derive(Clone, Copy)]
-pub enum Line<'a> {
-    Origin(&'a [u8]),
-    Hit(&'a [u8]),
-    Far(&'a [u8]),
+pub enum Line {
+    Origin(Position),
+    Return { hit: bool, end: Position },
     End,
 }
 
 const MOST_DIGITS: usize = 4;
 
-// Where the line that begins at `at` ends: the offset of its line feed.
-pub fn line_end(text: &[u8], at: usize) -> Option<usize>
-    requires { at ≤ length text.now }
-    ensures { FirstLine text.now at result }
+// What stands before the first such byte, and what behind it.
+pub fn split_once(bytes: &[u8], byte: u8) -> Option<(&[u8], &[u8])>
+    ensures { MatchOption result (All (λ b. b ≢ byte) bytes.now) (λ parts. CutAt byte bytes.now parts.0.now parts.1.now) }
 {
-    for i in at..text.len() {
-        if text[i] == b'\n' {
-            return Some(i);
-        }
-    }
-    None
+    let at = bytes.iter().position(|b| *b == byte)?;
+    Some((&bytes[..at], &bytes[at + 1..]))
 }
 
-// A line without its line feed; none where it has no letter of the four, or the end's letter is not alone.
-pub fn line_of(bytes: &[u8]) -> Option<Line<'_>>
-    ensures { MatchOption result (said bytes.now ≡ None) (λ line. said bytes.now ≡ said_by line) }
+// What the bytes of a line say, without its line feed; none where they have not the form.
+pub fn line_of(bytes: &[u8]) -> Option<Line>
+    ensures { said bytes.now ≡ option_map said_by result }
 {
     let (letter, numbers) = bytes.split_first()?;
-    match char::from(*letter) {
-        'O' => Some(Line::Origin(numbers)),
-        'H' => Some(Line::Hit(numbers)),
-        'F' => Some(Line::Far(numbers)),
-        'E' => {
-            if numbers.is_empty() {
-                Some(Line::End)
-            } else {
-                None
-            }
-        }
+    match letter {
+        b'O' => position(numbers).map(Line::Origin),
+        b'H' => position(numbers).map(|end| Line::Return { hit: true, end }),
+        b'F' => position(numbers).map(|end| Line::Return { hit: false, end }),
+        b'E' if numbers.is_empty() => Some(Line::End),
         _ => None,
     }
 }
 
 // Three numbers, each after one space.
-pub fn position(numbers: &[u8]) -> Option<Position>
+fn position(numbers: &[u8]) -> Option<Position>
     ensures { result ≡ position_of (pieces_from 32 [] numbers.now) }
 {
-    let first = space(numbers, 0)?;
-    if first != 0 {
-        return None;
-    }
-    let second = space(numbers, first + 1)?;
-    let third = space(numbers, second + 1)?;
-    if let Some(_) = space(numbers, third + 1) {
-        return None;
-    }
-    let x = number(&numbers[first + 1..second])?;
-    let y = number(&numbers[second + 1..third])?;
-    let z = number(&numbers[third + 1..numbers.len()])?;
-    Some(Position { x, y, z })
-}
-
-// Where the next space stands, from `at` on.
-fn space(bytes: &[u8], at: usize) -> Option<usize>
-    requires { at ≤ length bytes.now }
-    ensures { FirstPiece bytes.now at result }
-{
-    for i in at..bytes.len() {
-        if bytes[i] == b' ' {
-            return Some(i);
-        }
-    }
-    None
+    let numbers = numbers.strip_prefix(b" ")?;
+    let (x, rest) = split_once(numbers, b' ')?;
+    let (y, z) = split_once(rest, b' ')?;
+    Some(Position {
+        x: number(x)?,
+        y: number(y)?,
+        z: number(z)?,
+    })
 }
 
 // 0, or up to four digits that do not begin with 0.
 fn number(digits: &[u8]) -> Option<u16>
     ensures { result ≡ number_in digits.now }
 {
-    let count = digits.len();
-    if count == 0 || count > MOST_DIGITS {
+    if digits.len() > MOST_DIGITS {
         return None;
     }
-    if count > 1 && digits[0] == b'0' {
+    if let [] | [b'0', _, ..] = digits {
         return None;
     }
     let mut value = 0;
     for digit in digits {
-        if *digit < b'0' || *digit > b'9' {
+        if !digit.is_ascii_digit() {
             return None;
         }
         value = 10 * value + u16::from(*digit - b'0');

@@ -1,139 +1,93 @@
-ghost use Rattle.std.specs.Prelude.{◌≡◌, ◌^◌, ◌<◌, ◌≤◌, [], length};
+ghost use Rattle.std.specs.Prelude.{◌≡◌, ◌+◌, ◌^◌, ◌<◌, true, false, length, MatchResult};
 ghost use Rattle.scans.specs.Lines.{said_by};
-ghost use Rattle.scans.specs.Steps.{Judged, Stands, Stepped, misplaced, placed, return_said};
-ghost use Rattle.scans.specs.Texts.{Progress, nothing, pieces_from, position_of, with_numbers};
+ghost use Rattle.scans.specs.Texts.{Progress, nothing, outside};
 
-use crate::lines::{Line, line_end, line_of, position};
-use voxels::{Position, Reason, Refusal, side};
+use crate::lines::{Line, line_of, split_once};
+use voxels::{Position, Reason, side};
 
 const MOST_RETURNS: u16 = 512;
 
 const TICKS: u16 = 64;
 
-// How far a scan is read: no line yet, or its origin and so many return lines.
+// Where a scan stood, by its origin line, and how many return lines came since.
 #[derive(Clone, Copy)]
-pub enum Stage {
-    Start,
-    Since { origin: Position, returns: u16 },
+pub struct Since {
+    pub origin: Position,
+    pub returns: u16,
 }
 
-// What a line was.
-#[derive(Clone, Copy)]
-pub enum Step {
-    Origin,
-    Return { hit: bool, end: Position },
-    End,
-}
-
-#[derive(Clone, Copy)]
-pub struct Reader {
+// How far a scan is read: what is left of its text, where in the text that begins, and what the lines before it said.
+#[derive(Drop)]
+pub struct Reader<'t> {
     pub depth: u8,
-    pub stage: Stage,
+    pub rest: &'t [u8],
+    pub place: usize,
+    pub since: Option<Since>,
+    ghost fits: { place + length rest.now < 2 ^ 64 },
 }
 
-impl Reader {
-    pub fn new(depth: u8) -> Reader
+impl<'t> Reader<'t> {
+    ghost use Rattle.scans.specs.Steps.{Judged, Stands, Stepped};
+
+    pub fn new(depth: u8, text: &'t [u8]) -> Reader<'t>
         ensures depth { result.depth ≡ depth }
+        ensures rest { result.rest.now ≡ text.now }
+        ensures place { result.place ≡ 0 }
         ensures stands { Stands result nothing }
     {
         Reader {
             depth,
-            stage: Stage::Start,
+            rest: text,
+            place: 0,
+            since: None,
         }
     }
 
-    // Reads the line that begins at `at`: what it was, and where the next begins. A place fits its refusal.
-    pub fn step(&mut self, text: &[u8], at: usize) -> Result<(Step, usize), Refusal>
-        requires { (at ≤ length text.now) × (at < 2 ^ 32) }
-        ensures { (progress : Progress) → Stands self.old progress → Stepped self.old self.new text.now at progress result }
+    // Reads the next line, and moves behind it where it is taken.
+    pub fn step(&mut self) -> Result<Line, Reason>
+        ensures { (progress : Progress) → Stands self.old progress → Stepped self.old self.new progress result }
     {
-        let place = at as u32;
-        let Some(end) = line_end(text, at) else {
-            return Err(Refusal {
-                reason: Reason::NoLineFeed,
-                place,
-            });
-        };
-        let Some(line) = line_of(&text[at..end]) else {
-            return Err(Refusal {
-                reason: Reason::MalformedLine,
-                place,
-            });
-        };
-        match self.take(line) {
-            Ok(step) => Ok((step, end + 1)),
-            Err(reason) => Err(Refusal { reason, place }),
-        }
+        let (bytes, rest) = split_once(self.rest, b'\n').ok_or(Reason::NoLineFeed)?;
+        let line = line_of(bytes).ok_or(Reason::MalformedLine)?;
+        self.since = self.taken(line)?;
+        self.rest = rest;
+        self.place += bytes.len() + 1;
+        Ok(line)
     }
 
-    // Takes a line where it belongs; the reader stays as it was where it is refused.
-    fn take(&mut self, line: Line<'_>) -> Result<Step, Reason>
-        ensures { (progress : Progress) → Stands self.old progress → Judged self.old self.new progress (said_by line.entry) result }
+    // What is read with a line more, where it belongs here.
+    fn taken(&self, line: Line) -> Result<Option<Since>, Reason>
+        ensures { (progress : Progress) → Stands self.now progress → Judged self.now.depth progress (said_by line) result }
     {
-        match (self.stage, line) {
-            (Stage::Start, Line::Origin(numbers)) => {
-                let origin = self.inside(numbers)?;
-                self.stage = Stage::Since { origin, returns: 0 };
-                Ok(Step::Origin)
+        match (self.since, line) {
+            (None, Line::Origin(origin)) => {
+                self.check_inside(origin)?;
+                Ok(Some(Since { origin, returns: 0 }))
             }
-            (Stage::Start, Line::Hit(numbers)) => Err(misplaced(numbers)),
-            (Stage::Start, Line::Far(numbers)) => Err(misplaced(numbers)),
-            (Stage::Start, Line::End) => Err(Reason::MisplacedLine),
-            (Stage::Since { .. }, Line::Origin(numbers)) => Err(misplaced(numbers)),
-            (Stage::Since { origin, returns }, Line::Hit(numbers)) => self.returned(
-                origin, returns, true, numbers,
-            ),
-            (Stage::Since { origin, returns }, Line::Far(numbers)) => self.returned(
-                origin, returns, false, numbers,
-            ),
-            (Stage::Since { .. }, Line::End) => Ok(Step::End),
+            (Some(since), Line::Return { end, .. }) => {
+                self.check_inside(end)?;
+                if since.returns >= MOST_RETURNS {
+                    return Err(Reason::TooManyReturns);
+                }
+                Ok(Some(Since {
+                    returns: since.returns + 1,
+                    ..since
+                }))
+            }
+            (Some(since), Line::End) => Ok(Some(since)),
+            _ => Err(Reason::MisplacedLine),
         }
     }
 
-    // Takes a return line behind the origin and those that stand already.
-    fn returned(
-        &mut self,
-        origin: Position,
-        returns: u16,
-        hit: bool,
-        numbers: &[u8],
-    ) -> Result<Step, Reason>
-        requires { self.old.stage ≡ Stage.Since origin returns }
-        ensures { (progress : Progress) → Stands self.old progress → Judged self.old self.new progress (with_numbers (return_said hit) numbers.now) result }
+    // Refuses a position that lies outside the reader's map.
+    fn check_inside(&self, position: Position) -> Result<(), Reason>
+        ensures { MatchResult result (λ _. outside self.now.depth position ≡ false) (λ reason. (outside self.now.depth position ≡ true) × (reason ≡ Reason.TickOutside)) }
     {
-        let end = self.inside(numbers)?;
-        if returns >= MOST_RETURNS {
-            return Err(Reason::TooManyReturns);
-        }
-        self.stage = Stage::Since {
-            origin,
-            returns: returns + 1,
-        };
-        Ok(Step::Return { hit, end })
-    }
-
-    // A position of the reader's map.
-    fn inside(&self, numbers: &[u8]) -> Result<Position, Reason>
-        ensures { result ≡ placed self.now.depth (position_of (pieces_from 32 [] numbers.now)) }
-    {
-        let Some(found) = position(numbers) else {
-            return Err(Reason::MalformedLine);
-        };
         let limit = TICKS * side(self.depth);
-        if found.x < limit && found.y < limit && found.z < limit {
-            Ok(found)
+        if position.x < limit && position.y < limit && position.z < limit {
+            Ok(())
         } else {
             Err(Reason::TickOutside)
         }
-    }
-}
-
-// Why a line that does not belong where it stands is refused: its form comes first.
-fn misplaced(numbers: &[u8]) -> Reason
-    ensures { result ≡ misplaced (position_of (pieces_from 32 [] numbers.now)) }
-{
-    match position(numbers) {
-        Some(_) => Reason::MisplacedLine,
-        None => Reason::MalformedLine,
     }
 }

@@ -1,10 +1,11 @@
 -- A cell is unknown or a number of hundredths of log-odds from -200 to 350.
-use Rattle.std.specs.Prelude.{ℕ, ◌+◌, ◌-◌, Bool, true, false, cond, ◌&&◌, ℤ, pos, negsuc, ◌+ℤ◌, ◌==◌, int_le, int_lt, nat_le}
+use Rattle.std.specs.Prelude.{◌≡◌, ℕ, ◌+◌, ◌-◌, ◌<◌, Bool, true, false, cond, ◌&&◌, ℤ, pos, negsuc, ◌+ℤ◌, ◌==◌, int_le, int_lt, nat_le, MatchResult, Result}
 use Rattle.std.proofs.Math.IntN.{sub_ℕ}
 use Rattle.voxels.specs.declared.cells.Cell.{Cell}
 use Rattle.voxels.specs.declared.cells.Cell.TheVariants.{Unknown, Known}
 use Rattle.voxels.specs.declared.cells.Event.{Event}
 use Rattle.voxels.specs.declared.cells.Event.TheVariants.{Hit, Miss}
+use Rattle.voxels.specs.declared.cells.NoState.{NoState}
 use Rattle.voxels.specs.declared.cells.State.{State}
 
 abbrev pub lowest : ℤ
@@ -36,6 +37,16 @@ updated c e = Known (clamped (log_odds c +ℤ change e))
 abbrev pub state_of : Cell → State
 state_of Unknown = State.Unknown
 state_of (Known v) = cond (int_lt v (pos 0)) State.Free State.Occupied
+
+-- a state's number
+abbrev pub state_number : State → ℕ
+state_number State.Unknown = 0
+state_number State.Free = 1
+state_number State.Occupied = 2
+
+-- what a number gives: the state that has it, or that none has it
+abbrev pub NumberGives : ℕ → Result State NoState → Type 0
+NumberGives number r = MatchResult r (λ state. state_number state ≡ number) (λ e. (e.0 ≡ number) × (2 < number))
 
 abbrev pub same_number : ℤ → ℤ → Bool
 same_number (pos m) (pos n) = m == n

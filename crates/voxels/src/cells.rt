@@ -1,5 +1,5 @@
 ghost use Rattle.std.specs.Prelude.{◌≡◌, true, Some};
-ghost use Rattle.voxels.specs.Cells.{cell_word, change, clamped, in_range, log_odds, state_of, updated, word_cell};
+ghost use Rattle.voxels.specs.Cells.{NumberGives, cell_word, change, clamped, in_range, log_odds, state_of, updated, word_cell};
 ghost use Rattle.voxels.specs.Texts.{cell_text, event_text};
 
 use std::fmt;
@@ -23,6 +23,10 @@ pub enum State {
     Free,
     Occupied,
 }
+
+// No state has the number.
+#[derive(Clone, Copy, PartialEq, Eq, Debug)]
+pub struct NoState(pub u8);
 
 const LOWEST: i16 = -200;
 
@@ -127,6 +131,22 @@ impl fmt::Display for Event {
             Event::Hit => "hit",
             Event::Miss => "miss",
         })
+    }
+}
+
+// A state by its number.
+impl TryFrom<u8> for State {
+    type Error = NoState;
+
+    ghost try_from_gives = { NumberGives };
+
+    fn try_from(number: u8) -> Result<State, NoState> {
+        match number {
+            0 => Ok(State::Unknown),
+            1 => Ok(State::Free),
+            2 => Ok(State::Occupied),
+            _ => Err(NoState(number)),
+        }
     }
 }
 

@@ -7,7 +7,7 @@ mod pages;
 mod refusals;
 mod space;
 
-pub use cells::{Cell, Event, State};
+pub use cells::{Cell, Event, NoState, State};
 pub use cubes::{cube_at, most_blocks};
 pub use pages::{WorkPage, check_page, wipe_voxels};
 pub use refusals::{Reason, Refusal};

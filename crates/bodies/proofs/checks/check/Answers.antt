@@ -1,6 +1,4 @@
-use Rattle.std.proofs.Common.{◌≡◌, true, false, leb, sym, ◌∙◌, subst, ⊎_elim, arith}
-use Rattle.std.proofs.lemmas.Bool.{and_left, and_right, lt-leb}
-use Rattle.voxels.proofs.Blocks.{map_depth}
+use Rattle.std.proofs.Common.{◌≡◌, true, false, sym, ◌∙◌, subst, arith, rules}
 use Rattle.voxels.specs.Refusals.{Told, told}
 use Rattle.voxels.specs.Space.{is_depth}
 use Rattle.bodies.specs.Loads.{check_answer}
@@ -12,13 +10,12 @@ use Rattle.bodies.proofs.Packing.{bytes_all}
 use Rattle.bodies.proofs.WholeBodies.{read_told}
 use Rattle.bodies.proofs.checks.check.Goals as goal
 
-pub returns-then-depth-lt1 : goal.returns-then-depth-lt1
-returns-then-depth-lt1 c =
+pub returns-then-not-contains : goal.returns-then-not-contains
+returns-then-not-contains c =
     let depth = c.args.depth in
     let body = c.args.body.now in
     let bytes = bytes_all body (λ i. omega (arith, c.type_inv.body i)) in
-    let no-map : is_depth depth ≡ false =
-    ⊎_elim (λ low. and_left (leb 1 depth) (leb depth 5) (lt-leb 1 depth low)) (λ high. and_right (leb 1 depth) (leb depth 5) (lt-leb depth 5 high.1)) c.then-depth-lt1.either in
+    let no-map : is_depth depth ≡ false = search rules in
     let P : Told (Unit {0}) → Type 0 = ExactlyMaps depth body in
     record {
       answer = sym (check_none depth body no-map);
@@ -31,7 +28,7 @@ returns c =
     let depth = c.args.depth in
     let body = c.args.body.now in
     let bytes = bytes_all body (λ i. omega (arith, c.type_inv.body i)) in
-    let is : is_depth depth ≡ true = map_depth depth c.if-depth-lt1.false c.if-depth-gt5.false in
+    let is : is_depth depth ≡ true = search rules in
     let answer : told c.read_body.result ≡ check_answer depth body = read_told (read_body depth body) _ _ depth c.read_body.result c.read_body.ensures ∙ sym (check_depth depth body is) in
     let P : Told (Unit {0}) → Type 0 = ExactlyMaps depth body in
     record {

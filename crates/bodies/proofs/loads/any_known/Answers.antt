@@ -1,22 +1,16 @@
-use Rattle.std.proofs.Common.{◌≡◌, ◌<◌, ap, ◌∙◌, arith}
+use Rattle.std.proofs.Common.{◌≡◌, ℕ, Bool, true, false, refl, ap, ◌∙◌, arith, rules, tests}
+use Rattle.std.proofs.lemmas.Iterator.{YieldsList-from_range, cases_from_any}
+use Rattle.voxels.specs.Bounded.{some}
 use Rattle.voxels.specs.Space.{voxel_count}
-use Rattle.bodies.proofs.Loading.{known_none, known_some}
+use Rattle.bodies.specs.Loads.{is_known}
+use Rattle.bodies.proofs.Ranges.{some_from_any}
 use Rattle.bodies.proofs.loads.any_known.Goals as goal
-
-pub returns-in-Known : goal.returns-in-Known
-returns-in-Known g c =
-    let s = g.S.Store in
-    let store = c.args.store.now in
-    let n = c.loop-index.index in
-    let end : c.voxel_count-index-end.result ≡ voxel_count (s.depth store) = c.voxel_count-index-end.ensures ∙ ap voxel_count c.depth.ensures in
-    let inside : n < voxel_count (s.depth store) = omega (arith, end, c.loop-index-test.true) in
-    known_some (s.cell store) (voxel_count (s.depth store)) n _ inside c.in-Known.ensures
 
 pub returns : goal.returns
 returns g c =
-    let s = g.S.Store in
-    let store = c.args.store.now in
-    let n = c.loop-index.index in
-    let end : c.voxel_count-index-end.result ≡ voxel_count (s.depth store) = c.voxel_count-index-end.ensures ∙ ap voxel_count c.depth.ensures in
-    let whole : n ≡ voxel_count (s.depth store) = omega (arith, end, c.loop-index-test.false, c.loop-index.auto.index-end) in
-    known_none (s.cell store) (voxel_count (s.depth store)) n c.loop-index.invariant whole
+    let cells = g.S.Store.cell c.args.store.now in
+    let P : ℕ → Bool = λ i. is_known (cells i) in
+    let n = c.voxel_count.result in
+    let count = c.voxel_count.ensures ∙ ap voxel_count c.depth.ensures in
+    some_from_any n P c.any.result (cases_from_any _ _ _ (λ x. P x ≡ true) (λ x. P x ≡ false) c.any.ensures.ran (YieldsList-from_range 0 n n refl (omega arith)) (λ x q k. search (rules, tests)) (λ x q k. search (rules, tests)))
+    ∙ ap (λ m. some m P) count

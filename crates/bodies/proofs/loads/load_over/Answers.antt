@@ -1,82 +1,60 @@
-use Rattle.std.proofs.Common.{◌≡◌, ℕ, sym, refl, ap, ◌∙◌, arith}
-use Rattle.voxels.proofs.Blocks.{map_depth}
+use Rattle.std.proofs.Common.{◌≡◌, ℕ, Err, sym, refl, ap, ◌∙◌, arith}
+use Rattle.std.proofs.lemmas.Result.{err_from_is_err_and}
+use Rattle.voxels.specs.Refusals.{told, number_of, refused}
 use Rattle.voxels.specs.declared.cells.Cell.TheVariants.{Unknown}
-use Rattle.bodies.specs.Loads.{load_cells, states_answer, told_load}
+use Rattle.voxels.specs.declared.refusals.Refusal.{Refusal}
+use Rattle.voxels.proofs.Blocks.{map_depth}
+use Rattle.bodies.specs.Loads.{load_cells, states_answer}
 use Rattle.bodies.specs.Readings.{read_body}
 use Rattle.bodies.proofs.LoadCalls.{loaded_same, states_answer_lem, states_cells_lem, states_refused, states_stand}
 use Rattle.bodies.proofs.Loading.{all_unknown, load_known, load_states}
 use Rattle.bodies.proofs.Packing.{bytes_all}
 use Rattle.bodies.proofs.loads.load_over.Goals as goal
 
-pub returns-then-any_known : goal.returns-then-any_known
-returns-then-any_known g c =
+pub returns-then-any_known-clause-answer : goal.returns-then-any_known-clause-answer
+returns-then-any_known-clause-answer g c =
     let s = g.S.Store in
     let store = c.args.store.now in
-    record {
-      answer = sym (load_known (s.depth store) (s.closed store) (s.limit store) (s.cell store) c.args.body.now (sym c.any_known.ensures ∙ c.if-any_known.true));
-      cells = λ i. refl;
-      same = tt;
-      rest = λ k past. refl;
-      depth = refl;
-      closed = refl;
-      limit = refl;
-    }
+    ap (λ (r : Refusal). refused (number_of r.reason) r.place) c.into.ensures
+    ∙ sym (load_known (s.shape store) (s.cell store) c.args.body.now (sym c.any_known.ensures ∙ c.if-any_known.true))
 
-pub place_states-requires : goal.place_states-requires
-place_states-requires g c =
+pub returns-in_err-read_body : goal.returns-in_err-read_body
+returns-in_err-read_body g c =
     let s = g.S.Store in
     let store = c.args.store.now in
-    record {
-      some = c.requires.some;
-      long = omega (arith, c.requires.long, c.read_body.auto.words);
-      empty = all_unknown (s.depth store) (s.cell store) (s.laws.outside store) (sym c.any_known.ensures ∙ c.if-any_known.false);
-    }
-
-pub returns-in-Ok : goal.returns-in-Ok
-returns-in-Ok g c =
-    let s = g.S.Store in
-    let store = c.args.store.now in
-    let depth = s.depth store in
-    let closed = s.closed store in
-    let limit = s.limit store in
+    let shape = s.shape store in
     let cells = s.cell store in
     let body = c.args.body.now in
-    let words = c.read_body.new.words in
-    let empty : (i : ℕ) → cells i ≡ Unknown = all_unknown depth cells (s.laws.outside store) (sym c.any_known.ensures ∙ c.if-any_known.false) in
-    let stand = states_stand depth c.depth.result body c.args.words.now words c.depth.ensures c.requires.some (s.laws.shallow store) c.in-Ok.field-0 c.requires.long c.in-Ok.ensures in
-    let done = c.place_states.ensures in
-    let told = told_load c.place_states.result in
-    let answer : told ≡ states_answer depth closed limit cells (read_body depth body) = done.answer ∙ states_answer_lem depth closed limit cells words body stand.0 stand.1 stand.2 in
-    let after = s.cell c.place_states.new.store in
-    let left : (i : ℕ) → after i ≡ load_cells depth closed limit cells told body i = λ i. done.cells i ∙ states_cells_lem depth closed limit cells words body stand.0 stand.1 stand.2 told i in
-    let bytes = bytes_all body (λ i. omega (arith, c.type_inv.body i)) in
-    record {
-      answer = answer ∙ sym (load_states depth closed limit cells body empty);
-      cells = left;
-      same = loaded_same depth closed limit cells after body stand.0 told empty (map_depth depth c.requires.some (s.laws.shallow store)) bytes stand.1 answer left;
-      rest = stand.3;
-      depth = done.depth;
-      closed = done.closed;
-      limit = done.limit;
-    }
-
-pub returns-in-Err : goal.returns-in-Err
-returns-in-Err g c =
-    let s = g.S.Store in
-    let store = c.args.store.now in
-    let depth = s.depth store in
-    let closed = s.closed store in
-    let limit = s.limit store in
-    let cells = s.cell store in
-    let body = c.args.body.now in
-    let empty : (i : ℕ) → cells i ≡ Unknown = all_unknown depth cells (s.laws.outside store) (sym c.any_known.ensures ∙ c.if-any_known.false) in
-    let refused-so = states_refused depth c.depth.result body c.args.words.now c.read_body.new.words c.depth.ensures c.requires.some (s.laws.shallow store) c.in-Err.refusal c.in-Err.ensures in
-    record {
-      answer = sym (load_states depth closed limit cells body empty ∙ ap (states_answer depth closed limit cells) refused-so.0);
+    let empty : (i : ℕ) → cells i ≡ Unknown = all_unknown shape.depth cells (g.met.S.Store.laws.outside store) (sym c.any_known.ensures ∙ c.if-any_known.false) in
+    let refused-so = states_refused shape.depth c.depth.result body c.args.page.now c.read_body.new.words c.depth.ensures c.requires.some (g.met.S.Store.laws.shallow store) c.in_err-read_body.field-0.0 c.in_err-read_body.ensures in
+    let p = err_from_is_err_and c.from_residual.result c.from_residual.ensures.1 in
+    rw (p.1, p.2) record {
+      answer = sym (load_states shape cells body empty ∙ ap (states_answer shape cells) refused-so.0);
       cells = λ i. refl;
       same = tt;
       rest = refused-so.1;
-      depth = refl;
-      closed = refl;
-      limit = refl;
+      shape = refl;
+    }
+
+pub returns : goal.returns
+returns g c =
+    let s = g.S.Store in
+    let store = c.args.store.now in
+    let shape = s.shape store in
+    let cells = s.cell store in
+    let body = c.args.body.now in
+    let words = c.read_body.new.words in
+    let empty : (i : ℕ) → cells i ≡ Unknown = all_unknown shape.depth cells (g.met.S.Store.laws.outside store) (sym c.any_known.ensures ∙ c.if-any_known.false) in
+    let stand = states_stand shape.depth c.depth.result body c.args.page.now words c.depth.ensures c.requires.some (g.met.S.Store.laws.shallow store) c.in_ok-read_body.field-0 c.requires.long c.in_ok-read_body.ensures in
+    let done = c.sweep.ensures in
+    let answer : told c.sweep.result ≡ states_answer shape cells (read_body shape.depth body) = done.answer ∙ states_answer_lem shape cells words body stand.0 stand.1 stand.2 in
+    let after = s.cell c.sweep.new.store in
+    let left : (i : ℕ) → after i ≡ load_cells shape cells (told c.sweep.result) body i = λ i. done.cells i ∙ states_cells_lem shape cells words body stand.0 stand.1 stand.2 (told c.sweep.result) i in
+    let bytes = bytes_all body (λ i. omega (arith, c.type_inv.body i)) in
+    record {
+      answer = answer ∙ sym (load_states shape cells body empty);
+      cells = left;
+      same = loaded_same shape cells after body stand.0 (told c.sweep.result) empty (map_depth shape.depth c.requires.some (g.met.S.Store.laws.shallow store)) bytes stand.1 answer left;
+      rest = λ k past. done.rest k past ∙ stand.3 k past;
+      shape = done.shape;
     }

@@ -16,11 +16,11 @@ use Rattle.scans.proofs.calls.scan_over.Goals.{In_ok-used}
 -- what the reading left for the sweep: the text's lines, and marks that say its events
 read_so : (g : Over) (c : In_ok-used g) → let shape = g.S.Store.shape c.args.store.now in let cells = g.S.Store.cell c.args.store.now in
     (said : ScanText) × (read_text shape.depth c.args.text.now ≡ taken said) × (c.in_ok-used.used ≡ said.used)
-    × ((k : ℕ) → k < voxel_count shape.depth → wanted_of marked_cell c.mark_lines.new.page cells k ≡ wanted_by (scan_events shape.depth said) cells k)
+    × ((k : ℕ) → k < voxel_count shape.depth → wanted_of marked_cell c.mark_lines.new.words cells k ≡ wanted_by (scan_events shape.depth said) cells k)
 read_so g c =
     let shape = g.S.Store.shape c.args.store.now in
-    let marks = c.mark_lines.new.page in
-    let read = c.in_ok-used.ensures.read in
+    let marks = c.mark_lines.new.words in
+    let read = c.in_ok-used.ensures in
     let said = read.0 in
     let M : ℕ → Type 0 = λ d. MarkedBy d (since said.origin said.returns) marks in (
       said,

@@ -1,19 +1,14 @@
-use Rattle.std.proofs.Common.{ℕ, Bool, not, eqb, sym, ap, ◌∙◌, arith}
-use Rattle.std.proofs.lemmas.Bool.{and_right, ne_eqb}
+use Rattle.std.proofs.Common.{◌≡◌, ℕ, Bool, true, false, ◌&&◌, eqb, sym, ap, ◌∙◌, arith, rules, tests}
+use Rattle.std.proofs.lemmas.Iterator.{YieldsList-from_range, cases_from_all}
+use Rattle.std.proofs.lemmas.Bool.{ne_eqb, not_from_false}
 use Rattle.bodies.specs.Codes.{child_code}
 use Rattle.voxels.specs.Bounded.{all}
-use Rattle.voxels.proofs.Bounds.{all_fails, all_holds}
-use Rattle.bodies.proofs.PairFaults.{and_true}
+use Rattle.bodies.proofs.Ranges.{all_from_all}
 use Rattle.bodies.proofs.codes.Pair.is_uniform.Goals as goal
 
-pub returns-then-bits : goal.returns-then-bits
-returns-then-bits c =
+pub returns-then-bits-ne-MIXED : goal.returns-then-bits-ne-MIXED
+returns-then-bits-ne-MIXED c =
     let code = child_code c.args.self.first c.args.self.second in
     let P : ℕ → Bool = λ j. eqb (code j) (code 0) in
-    sym (and_right (not (eqb (code 0) 3)) (all 8 P) (all_fails 8 P c.loop-child.child (omega arith) (ne_eqb _ _ (λ e. c.if-bits.true (c.bits.ensures ∙ e ∙ sym c.bits-bits.ensures)))))
-
-pub returns : goal.returns
-returns c =
-    let code = child_code c.args.self.first c.args.self.second in
-    let P : ℕ → Bool = λ j. eqb (code j) (code 0) in
-    ap (λ n. not (eqb n 3)) c.bits-bits.ensures ∙ sym (and_true (not (eqb (code 0) 3)) (all 8 P) (all_holds 8 P (λ k h. c.loop-child.invariant k (omega arith))))
+    let every = all_from_all 8 P c.all.result (cases_from_all _ _ _ (λ x. P x ≡ true) (λ x. P x ≡ false) c.all.ensures.ran (YieldsList-from_range 0 8 8 (cc) (omega arith)) (λ x q k. search (rules, tests)) (λ x q k. search (rules, tests))) in
+    every ∙ ap (λ b. b && all 8 P) (sym (not_from_false (eqb (code 0) 3) (ne_eqb _ _ (λ e. c.if-bits-ne-MIXED.true (c.bits-bits.ensures ∙ e)))))
