@@ -1,5 +1,5 @@
 -- The load call: its answer and its cells from those of its parts.
-use Rattle.std.proofs.Common.{◌≡◌, ℕ, ◌+◌, ◌^◌, ◌<◌, ◌≤◌, Bool, true, List, length, get_or, Some, None, Ok, Err, Option, Result, sym, refl, ap, ◌∙◌, subst, arith}
+use Rattle.std.proofs.Common.{◌≡◌, ℕ, ◌+◌, ◌^◌, ◌<◌, ◌≤◌, true, List, length, get_or, Some, None, Ok, Err, Option, Result, sym, refl, ap, ◌∙◌, subst, arith}
 use Rattle.voxels.specs.Bounded.{count, first}
 use Rattle.voxels.specs.Cells.{state_of}
 use Rattle.voxels.specs.Refusals.{Told, taken, refused, number_of}

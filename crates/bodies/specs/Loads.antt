@@ -1,5 +1,5 @@
 -- What check and load tell, and the cells that a load leaves.
-use Rattle.std.specs.Prelude.{◌≡◌, ℕ, ◌<◌, ◌≤◌, Bool, true, false, cond, List, is_some, Some, None, Ok, Err, Option, Result, slice_index}
+use Rattle.std.specs.Prelude.{◌≡◌, ℕ, ◌≤◌, Bool, true, false, cond, List, Some, None, Option, slice_index}
 use Rattle.bodies.specs.Bodies.{map_body}
 use Rattle.bodies.specs.Codes.{code_state}
 use Rattle.bodies.specs.Readings.{read_body}
@@ -7,17 +7,15 @@ use Rattle.bodies.specs.Theorems.{Writable, is_malformed, listed}
 use Rattle.stores.specs.Shapes.{Shape}
 use Rattle.stores.specs.Sweeps.{sweep_answer, swept}
 use Rattle.stores.specs.declared.visits.Swept.{Swept}
-use Rattle.voxels.specs.Bounded.{count, some}
-use Rattle.voxels.specs.Cells.{highest, lowest, put}
-use Rattle.voxels.specs.Cubes.{blocks_needed}
+use Rattle.voxels.specs.Bounded.{some}
+use Rattle.voxels.specs.Cells.{highest, lowest}
 use Rattle.voxels.specs.Pages.{over_page}
-use Rattle.voxels.specs.Refusals.{Told, taken, refused, number_of}
+use Rattle.voxels.specs.Refusals.{Told, taken, refused}
 use Rattle.voxels.specs.Space.{is_depth, voxel_count}
 use Rattle.voxels.specs.declared.cells.Cell.{Cell}
 use Rattle.voxels.specs.declared.cells.Cell.TheVariants.{Unknown, Known}
 use Rattle.voxels.specs.declared.cells.State.{State}
 use Rattle.voxels.specs.declared.cells.State as state
-use Rattle.voxels.specs.declared.refusals.Refusal.{Refusal}
 
 -- refused for the depth, or as a load would refuse the body
 abbrev pub judged : Told (List State) → Told (Unit {0})

@@ -14,10 +14,7 @@ pub fn check(depth: u8, body: &[u8]) -> Result<(), Refusal>
     ensures back { WritesBack depth body.now }
 {
     if !(1..=5).contains(&depth) {
-        return Err(Refusal {
-            reason: Reason::NoMap,
-            place: 0,
-        });
+        return Err(Reason::NoMap.into());
     }
     read_body(&mut [], depth, body)
 }

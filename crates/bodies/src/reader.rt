@@ -24,10 +24,7 @@ pub fn read_body(words: &mut [u16], depth: u8, body: &[u8]) -> Result<(), Refusa
     if left.bytes.is_empty() {
         Ok(())
     } else {
-        Err(Refusal {
-            reason: Reason::TrailingBytes,
-            place: left.at,
-        })
+        Err(Reason::TrailingBytes.at(left.at))
     }
 }
 
@@ -44,20 +41,14 @@ fn read_pair<'b>(
     ensures { ReadTo (read_pair cube.level root body.entry.at body.entry.bytes.now) words.old words.new cube.level cube.first result }
 {
     let [first, second, rest @ ..] = body.bytes else {
-        return Err(Refusal {
-            reason: Reason::MissingPair,
-            place: body.at,
-        });
+        return Err(Reason::MissingPair.at(body.at));
     };
     let pair = Pair {
         first: *first,
         second: *second,
     };
     if let Some(reason) = pair.fault(cube.level, root) {
-        return Err(Refusal {
-            reason,
-            place: body.at,
-        });
+        return Err(reason.at(body.at));
     }
     let mut left = Rest {
         bytes: rest,

@@ -42,10 +42,7 @@ fn write_over<S: Store>(store: &S, words: &mut [u16], output: &mut [u8]) -> Resu
         cube: Cube::root(depth),
     };
     if output.len() < root.body_length() {
-        return Err(Refusal {
-            reason: Reason::ShortOutput,
-            place: 0,
-        });
+        return Err(Reason::ShortOutput.into());
     }
     Ok(root.write_pair(output))
 }

@@ -7,8 +7,7 @@ use voxels::{Cell, Refusal};
 // Puts a cell and gives back the one that was there. That nothing else changes, and that a refused one changes nothing, follows from what a store means.
 pub fn exchange<S: Store>(store: &mut S, index: usize, value: Cell) -> Result<Cell, Refusal>
     ensures taken { MatchResult result (λ old. (old ≡ S.cell store.old index) × ((i : ℕ) → S.cell store.new i ≡ put (S.cell store.old) index value i)) (λ _. (i : ℕ) → S.cell store.new i ≡ S.cell store.old i) }
-    ensures depth { S.depth store.new ≡ S.depth store.old }
-    ensures closed { S.closed store.new ≡ S.closed store.old }
+    ensures shape { S.shape store.new ≡ S.shape store.old }
 {
     let old = store.read(index);
     store.set(index, value)?;

@@ -1,5 +1,4 @@
-ghost use Rattle.std.specs.Prelude.{false};
-ghost use Rattle.tables.specs.FullLaws.{full_lawful, nothing};
+ghost use Rattle.tables.specs.FullLaws.{full_lawful, full_shape, nothing};
 
 use stores::Store;
 use voxels::{Cell, Reason, Refusal};
@@ -9,15 +8,9 @@ use voxels::{Cell, Reason, Refusal};
 pub struct Full;
 
 impl Store for Full {
-    ghost depth = { λ _. 2 };
+    ghost shape = { λ _. full_shape };
 
     ghost cell = { λ _. nothing };
-
-    ghost closed = { λ _ _. false };
-
-    ghost limit = { λ _. 1 };
-
-    ghost laws = { full_lawful };
 
     const LETTER: char = 'N';
 
@@ -39,25 +32,18 @@ impl Store for Full {
 
     fn set(&mut self, index: usize, value: Cell) -> Result<(), Refusal> {
         if index >= 64 {
-            return Err(Refusal {
-                reason: Reason::NotOpen,
-                place: 0,
-            });
+            return Err(Reason::NotOpen.into());
         }
         if !value.in_range() {
-            return Err(Refusal {
-                reason: Reason::OutOfRange,
-                place: 0,
-            });
+            return Err(Reason::OutOfRange.into());
         }
         match value {
             Cell::Unknown => Ok(()),
-            Cell::Known(_) => Err(Refusal {
-                reason: Reason::BlockLimit,
-                place: index as u32,
-            }),
+            Cell::Known(_) => Err(Reason::BlockLimit.at(index as u32)),
         }
     }
 
     fn clear(&mut self) {}
+
+    ghost laws = { full_lawful };
 }

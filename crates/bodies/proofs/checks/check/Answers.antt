@@ -17,7 +17,7 @@ returns-then-not-contains c =
     let bytes = bytes_all body (λ i. omega (arith, c.type_inv.body i)) in
     let no-map : is_depth depth ≡ false = search rules in
     let P : Told (Unit {0}) → Type 0 = ExactlyMaps depth body in
-    record {
+    rw c.into.ensures record {
       answer = sym (check_none depth body no-map);
       exact = subst P (check_none depth body no-map) (check_exact depth body bytes);
       back = writes_back depth body bytes;

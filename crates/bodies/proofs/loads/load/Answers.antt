@@ -1,7 +1,7 @@
-use Rattle.std.proofs.Common.{length, Err, sym, refl, ap, ◌∙◌, subst, arith}
+use Rattle.std.proofs.Common.{length, sym, refl, ap, ◌∙◌, subst, arith}
 use Rattle.std.proofs.lemmas.Result.{err_from_is_err_and}
 use Rattle.voxels.specs.Pages.{over_page}
-use Rattle.voxels.specs.Refusals.{Told, number_of, taken, told}
+use Rattle.voxels.specs.Refusals.{Told, number_of, taken}
 use Rattle.voxels.proofs.WorkPages.{guard_left, over_enough, page_refused, page_taken}
 use Rattle.stores.specs.declared.visits.Swept.{Swept}
 use Rattle.bodies.specs.Loads.{MalformedExactly, body_answer}

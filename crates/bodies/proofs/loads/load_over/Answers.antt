@@ -1,8 +1,7 @@
-use Rattle.std.proofs.Common.{◌≡◌, ℕ, Err, sym, refl, ap, ◌∙◌, arith}
+use Rattle.std.proofs.Common.{◌≡◌, ℕ, sym, refl, ap, ◌∙◌, arith}
 use Rattle.std.proofs.lemmas.Result.{err_from_is_err_and}
-use Rattle.voxels.specs.Refusals.{told, number_of, refused}
+use Rattle.voxels.specs.Refusals.{told}
 use Rattle.voxels.specs.declared.cells.Cell.TheVariants.{Unknown}
-use Rattle.voxels.specs.declared.refusals.Refusal.{Refusal}
 use Rattle.voxels.proofs.Blocks.{map_depth}
 use Rattle.bodies.specs.Loads.{load_cells, states_answer}
 use Rattle.bodies.specs.Readings.{read_body}
@@ -15,8 +14,7 @@ pub returns-then-any_known-clause-answer : goal.returns-then-any_known-clause-an
 returns-then-any_known-clause-answer g c =
     let s = g.S.Store in
     let store = c.args.store.now in
-    ap (λ (r : Refusal). refused (number_of r.reason) r.place) c.into.ensures
-    ∙ sym (load_known (s.shape store) (s.cell store) c.args.body.now (sym c.any_known.ensures ∙ c.if-any_known.true))
+    rw c.into.ensures (sym (load_known (s.shape store) (s.cell store) c.args.body.now (sym c.any_known.ensures ∙ c.if-any_known.true)))
 
 pub returns-in_err-read_body : goal.returns-in_err-read_body
 returns-in_err-read_body g c =

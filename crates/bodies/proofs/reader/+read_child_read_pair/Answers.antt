@@ -10,12 +10,12 @@ use Rattle.bodies.proofs.reader.+read_child_read_pair.Goals as goal
 pub read_pair-returns-in_default : goal.read_pair-returns-in_default
 read_pair-returns-in_default t c =
     let words = c.args.words.now in
-    pair_short c.args.cube.level c.args.root c.args.body.at c.args.body.bytes.now words words c.args.cube.first c.requires.above record { reason = _; place = c.args.body.at } (search rules) refl refl
+    rw c.at.ensures (pair_short c.args.cube.level c.args.root c.args.body.at c.args.body.bytes.now words words c.args.cube.first c.requires.above record { reason = _; place = c.args.body.at } (search rules) refl refl)
 
 pub read_pair-returns-in-Some : goal.read_pair-returns-in-Some
 read_pair-returns-in-Some t c =
     let words = c.args.words.now in
-    pair_faulty c.args.cube.level c.args.root c.args.body.at c.args.body.bytes.now words words c.args.cube.first c.requires.above record { reason = c.in-Some.reason; place = c.args.body.at } (search rules) c.in-Some.ensures refl
+    rw c.at-in-Some.ensures (pair_faulty c.args.cube.level c.args.root c.args.body.at c.args.body.bytes.now words words c.args.cube.first c.requires.above record { reason = c.in-Some.reason; place = c.args.body.at } (search rules) c.in-Some.ensures refl)
 
 pub read_pair-loop-child-init : goal.read_pair-loop-child-init
 read_pair-loop-child-init t c =

@@ -10,7 +10,7 @@ returns-then-is_empty c =
 
 pub returns-else-is_empty : goal.returns-else-is_empty
 returns-else-is_empty c =
-    whole_trailing c.args.depth c.args.body.now c.args.words.now c.read_pair.new.words c.root.result.level c.root.result.first c.root.ensures.level c.root.ensures.first c.in_ok-left.left record { reason = _; place = c.in_ok-left.left.at } c.in_ok-left.ensures (omega (arith, eqb-false _ 0 (sym c.if-is_empty.ensures))) refl refl
+    rw c.at.ensures (whole_trailing c.args.depth c.args.body.now c.args.words.now c.read_pair.new.words c.root.result.level c.root.result.first c.root.ensures.level c.root.ensures.first c.in_ok-left.left record { reason = _; place = c.in_ok-left.left.at } c.in_ok-left.ensures (omega (arith, eqb-false _ 0 (sym c.if-is_empty.ensures))) refl refl)
 
 pub returns-in_err-left : goal.returns-in_err-left
 returns-in_err-left c =

@@ -10,7 +10,7 @@ returns-then-output-body_length-clause-answer g c =
     let s = g.S.Store in
     let store = c.args.store.now in
     let root = root_words (s.shape store).depth c.depth-depth.result c.voxel_count.result (s.cell store) c.args.words.now c.keep_states.new.words c.depth-depth.ensures c.voxel_count.ensures c.keep_states.auto.words c.requires.long c.keep_states.ensures c.root.result c.requires.some (g.met.S.Store.laws.shallow store) c.root.ensures.level c.root.ensures.first in
-    sym (room_short (s.shape store).depth (s.cell store) (length c.args.output.now) (omega (arith, c.if-output-body_length.true, c.body_length.ensures, ap length root.body)))
+    rw c.into.ensures (sym (room_short (s.shape store).depth (s.cell store) (length c.args.output.now) (omega (arith, c.if-output-body_length.true, c.body_length.ensures, ap length root.body))))
 
 pub returns-clause-answer : goal.returns-clause-answer
 returns-clause-answer g c =

@@ -2,8 +2,6 @@ use Rattle.std.proofs.Common.{◌≡◌, ℕ, ◌+◌, ◌/◌, ◌%◌, ◌<◌
 use Rattle.std.proofs.lemmas.List.{get_or-set_same, get_or-set_other, length-set}
 use Rattle.std.proofs.lemmas.Bool.{both_ways, eq-eqb}
 use Rattle.std.specs.Simd.{first_chunks}
-use Rattle.voxels.specs.Refusals.{refused, number_of}
-use Rattle.voxels.specs.declared.refusals.Refusal.{Refusal}
 use Rattle.stores.specs.Masks.{least_offset, no_run, pair_count, pair_fault, pair_run, run_end, run_fault}
 use Rattle.stores.proofs.MaskFills.{chunk_run, fill_ragged, fill_many, fill_wrong, fill_right, in_order, no_rest}
 use Rattle.stores.proofs.mask.read_runs.Goals as goal
@@ -13,12 +11,12 @@ pub returns-then-not-is_empty : goal.returns-then-not-is_empty
 returns-then-not-is_empty c =
     let rest : length c.as_chunks.result.1.now ≡ length c.args.bytes.now % 4 = c.as_chunks.ensures.back_len in
     let some = c.if-not-is_empty.ensures in
-    fill_ragged c.args.bytes.now (λ none. both_ways _ (sym some) (eq-eqb _ 0 (rest ∙ none))) ∙ sym (ap (λ (r : Refusal). refused (number_of r.reason) r.place) c.into.ensures)
+    rw c.into.ensures (fill_ragged c.args.bytes.now (λ none. both_ways _ (sym some) (eq-eqb _ 0 (rest ∙ none))))
 
 pub returns-then-pairs-gt-MOST_RUNS : goal.returns-then-pairs-gt-MOST_RUNS
 returns-then-pairs-gt-MOST_RUNS c =
     let pairs : length c.as_chunks.result.0.now ≡ length c.args.bytes.now / 4 = c.as_chunks.ensures.front_len in
-    fill_many c.args.bytes.now (no_rest _ _ c.as_chunks.ensures.back_len c.if-not-is_empty.ensures) (omega (arith, pairs, c.if-pairs-gt-MOST_RUNS.true)) ∙ sym (ap (λ (r : Refusal). refused (number_of r.reason) r.place) c.into-then-pairs-gt-MOST_RUNS.ensures)
+    rw c.into-then-pairs-gt-MOST_RUNS.ensures (fill_many c.args.bytes.now (no_rest _ _ c.as_chunks.ensures.back_len c.if-not-is_empty.ensures) (omega (arith, pairs, c.if-pairs-gt-MOST_RUNS.true)))
 
 -- the run is that of the pair, and judged as such
 judged : (c : After-fault) → (c.from-run.result ≡ pair_run c.args.bytes.now c.loop-at.at) × (run_fault c.from-run.result c.loop-at.least ≡ pair_fault c.args.bytes.now c.loop-at.at)
@@ -38,7 +36,7 @@ returns-in-Some c =
     let at = c.loop-at.at in
     let run = judged (goal.at.returns-in-Some c).After-fault in
     let pairs : length c.as_chunks.result.0.now ≡ pair_count bytes = c.as_chunks.ensures.front_len in
-    fill_wrong bytes at _ (no_rest _ _ c.as_chunks.ensures.back_len c.if-not-is_empty.ensures) (omega (arith, pairs, c.if-pairs-gt-MOST_RUNS.false)) (omega (arith, pairs, c.loop-at-test.true)) c.loop-at.invariant.4 (sym run.1 ∙ sym c.in-Some.ensures) ∙ sym (ap (λ (r : Refusal). refused (number_of r.reason) r.place) c.at.ensures)
+    rw c.at.ensures (fill_wrong bytes at _ (no_rest _ _ c.as_chunks.ensures.back_len c.if-not-is_empty.ensures) (omega (arith, pairs, c.if-pairs-gt-MOST_RUNS.false)) (omega (arith, pairs, c.loop-at-test.true)) c.loop-at.invariant.4 (sym run.1 ∙ sym c.in-Some.ensures))
 
 pub loop-at-preserved : goal.loop-at-preserved
 loop-at-preserved c =

@@ -1,8 +1,6 @@
-use Rattle.std.proofs.Common.{sym, refl, ap, ◌∙◌, arith}
+use Rattle.std.proofs.Common.{sym, refl, ◌∙◌, arith}
 use Rattle.stores.specs.Grids.{grid_cell, grid_shape}
 use Rattle.voxels.specs.Cells.{put}
-use Rattle.voxels.specs.Refusals.{refused, number_of}
-use Rattle.voxels.specs.declared.refusals.Refusal.{Refusal}
 use Rattle.stores.proofs.SetAnswers.{answer_not_open, answer_out_of_range, answer_taken}
 use Rattle.stores.proofs.GridCells.{grid_open, grid_not_open, grid_limit, grid_put}
 use Rattle.voxels.proofs.Indices.{count_above}
@@ -12,7 +10,7 @@ pub returns-then-index-voxel_count : goal.returns-then-index-voxel_count
 returns-then-index-voxel_count c =
     record {
       done = record {
-        tells = ap (λ (r : Refusal). refused (number_of r.reason) r.place) c.into.ensures ∙ sym (answer_not_open (grid_shape c.args.self.now.depth) _ _ _ (grid_not_open c.args.self.now.depth c.args.index (omega arith)));
+        tells = rw c.into.ensures (sym (answer_not_open (grid_shape c.args.self.now.depth) _ _ _ (grid_not_open c.args.self.now.depth c.args.index (omega arith))));
         leaves = λ j. refl;
       };
       shape = refl;
@@ -22,7 +20,7 @@ pub returns-then-not-in_range : goal.returns-then-not-in_range
 returns-then-not-in_range c =
     record {
       done = record {
-        tells = ap (λ (r : Refusal). refused (number_of r.reason) r.place) c.into-then-not-in_range.ensures ∙ sym (answer_out_of_range (grid_shape c.args.self.now.depth) _ _ _ (grid_open c.args.self.now.depth c.args.index (omega arith)) (sym c.in_range.ensures ∙ c.if-not-in_range.true));
+        tells = rw c.into-then-not-in_range.ensures (sym (answer_out_of_range (grid_shape c.args.self.now.depth) _ _ _ (grid_open c.args.self.now.depth c.args.index (omega arith)) (sym c.in_range.ensures ∙ c.if-not-in_range.true)));
         leaves = λ j. refl;
       };
       shape = refl;

@@ -1,6 +1,4 @@
 use Rattle.std.proofs.Common.{sym, refl, ap, ◌∙◌}
-use Rattle.voxels.specs.Refusals.{refused, number_of}
-use Rattle.voxels.specs.declared.refusals.Refusal.{Refusal}
 use Rattle.stores.specs.Masks.{closed_by, masked_shape}
 use Rattle.stores.proofs.SetAnswers.{answer_masked, answer_unmasked}
 use Rattle.stores.proofs.masked.MaskedStore.set.Goals as goal
@@ -12,7 +10,7 @@ returns-then-closes g c =
     let s = g.S.Store in
     record {
       done = record {
-        tells = ap (λ (r : Refusal). refused (number_of r.reason) r.place) c.into.ensures ∙ sym (answer_masked (s.shape store) (closed_by mask) (s.cell store) c.args.index c.args.value (sym c.if-closes.ensures));
+        tells = rw c.into.ensures (sym (answer_masked (s.shape store) (closed_by mask) (s.cell store) c.args.index c.args.value (sym c.if-closes.ensures)));
         leaves = λ j. refl;
       };
       shape = refl;

@@ -4,29 +4,22 @@ use Rattle.voxels.specs.Cells.{put}
 use Rattle.voxels.specs.Cubes.{blocks_needed}
 use Rattle.stores.proofs.GridCells.{grid_not_open, grid_open}
 use Rattle.stores.proofs.SetAnswers.{answer_not_open, answer_out_of_range, answer_past_limit, answer_taken}
-use Rattle.tables.specs.FullLaws.{nothing, nothing_needed}
+use Rattle.tables.specs.FullLaws.{full_shape, nothing, nothing_needed}
 use Rattle.tables.proofs.FullSets.{one_too_many, put_nothing}
 use Rattle.tables.proofs.full.FullStore.set.Goals as goal
-
-abbrev none : ℕ → Bool
-none i = false
 
 pub returns-then-index-ge64 : goal.returns-then-index-ge64
 returns-then-index-ge64 c =
     record {
-      done = record { tells = sym (answer_not_open 2 none 1 nothing c.args.index c.args.value (grid_not_open 2 c.args.index c.if-index-ge64.true)); leaves = λ j. refl };
-      depth = refl;
-      closed = refl;
-      limit = refl;
+      done = record { tells = rw c.into.ensures (sym (answer_not_open full_shape nothing c.args.index c.args.value (grid_not_open 2 c.args.index c.if-index-ge64.true))); leaves = λ j. refl };
+      shape = refl;
     }
 
 pub returns-then-not-in_range : goal.returns-then-not-in_range
 returns-then-not-in_range c =
     record {
-      done = record { tells = sym (answer_out_of_range 2 none 1 nothing c.args.index c.args.value (grid_open 2 c.args.index c.if-index-ge64.false) (sym c.in_range.ensures ∙ c.if-not-in_range.true)); leaves = λ j. refl };
-      depth = refl;
-      closed = refl;
-      limit = refl;
+      done = record { tells = rw c.into-then-not-in_range.ensures (sym (answer_out_of_range full_shape nothing c.args.index c.args.value (grid_open 2 c.args.index c.if-index-ge64.false) (sym c.in_range.ensures ∙ c.if-not-in_range.true))); leaves = λ j. refl };
+      shape = refl;
     }
 
 pub returns-in-Unknown : goal.returns-in-Unknown
@@ -35,10 +28,8 @@ returns-in-Unknown c =
     let same : (j : ℕ) → nothing j ≡ put nothing i c.args.value j = λ j. put_nothing i j ∙ ap (λ v. put nothing i v j) (sym c.in-Unknown.is) in
     let fits : blocks_needed 2 (put nothing i c.args.value) ≤ 1 = omega (arith, nothing_needed, ap (blocks_needed 2) (fun_ext same)) in
     record {
-      done = record { tells = sym (answer_taken 2 none 1 nothing i c.args.value (grid_open 2 i c.if-index-ge64.false) (sym c.in_range.ensures ∙ c.if-not-in_range.false) fits); leaves = same };
-      depth = refl;
-      closed = refl;
-      limit = refl;
+      done = record { tells = sym (answer_taken full_shape nothing i c.args.value (grid_open 2 i c.if-index-ge64.false) (sym c.in_range.ensures ∙ c.if-not-in_range.false) fits); leaves = same };
+      shape = refl;
     }
 
 pub returns-in-Known : goal.returns-in-Known
@@ -47,8 +38,6 @@ returns-in-Known c =
     let v = c.in-Known.field-0 in
     let more : 1 < blocks_needed 2 (put nothing i c.args.value) = omega (arith, one_too_many i v c.if-index-ge64.false, ap (λ k. blocks_needed 2 (put nothing i k)) c.in-Known.is) in
     record {
-      done = record { tells = sym (answer_past_limit 2 none 1 nothing i c.args.value (grid_open 2 i c.if-index-ge64.false) (sym c.in_range.ensures ∙ c.if-not-in_range.false) more); leaves = λ j. refl };
-      depth = refl;
-      closed = refl;
-      limit = refl;
+      done = record { tells = rw c.at.ensures (sym (answer_past_limit full_shape nothing i c.args.value (grid_open 2 i c.if-index-ge64.false) (sym c.in_range.ensures ∙ c.if-not-in_range.false) more)); leaves = λ j. refl };
+      shape = refl;
     }
