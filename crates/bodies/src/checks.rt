@@ -19,7 +19,7 @@ pub fn check(depth: u8, body: &[u8]) -> Result<(), Refusal>
     read_body(&mut [], depth, body)
 }
 
-// The check as a number: 0 for a body of a map of that depth, else the number that refuses it.
+// The check as a number, for callers in C: 0 for a body of a map of that depth, else the number that refuses it.
 pub fn verdict(depth: u8, body: &[u8]) -> u8
     ensures answer { result ≡ number_told (check_answer depth body.now) }
     ensures exact { ZeroForMaps depth body.now result }

@@ -1,4 +1,3 @@
-pub mod Comments
 pub mod Digits
 pub mod Filing
 pub mod Rows

@@ -1,11 +1,11 @@
 -- How a map is drawn.
-use Rattle.std.specs.Prelude.{ℕ, zero, suc, Bool, true, false, List, [], ◌∷◌, ◌++◌, Some, None, codes, Option}
+use Rattle.std.specs.Prelude.{ℕ, Bool, true, false, List, map, Some, None, Option}
+use Rattle.std.specs.List.{range_with_len}
 use Rattle.stores.specs.Sets.{is_open}
+use Rattle.stores.specs.Shapes.{Shape}
 use Rattle.voxels.specs.Cells.{state_of}
 use Rattle.voxels.specs.Space.{index_in, side}
 use Rattle.voxels.specs.declared.cells.Cell.{Cell}
-use Rattle.voxels.specs.declared.cells.Event.{Event}
-use Rattle.voxels.specs.declared.cells.Event.TheVariants.{Hit, Miss}
 use Rattle.voxels.specs.declared.cells.State.{State}
 use Rattle.voxels.specs.declared.cells.State.TheVariants.{Unknown, Free, Occupied}
 use Rattle.voxels.specs.declared.space.Voxel.{Voxel}
@@ -17,27 +17,18 @@ symbol_of true Occupied = 35
 symbol_of true Free = 46
 symbol_of true Unknown = 63
 
-abbrev pub symbol_from : ℕ → (ℕ → Bool) → (ℕ → Cell) → Option ℕ → ℕ
-symbol_from depth closed cell None = 120
-symbol_from depth closed cell (Some i) = symbol_of (is_open depth closed i) (state_of (cell i))
+abbrev pub symbol_from : Shape → (ℕ → Cell) → Option ℕ → ℕ
+symbol_from shape cell None = 120
+symbol_from shape cell (Some i) = symbol_of (is_open shape i) (state_of (cell i))
 
 -- a voxel's symbol by what the store means; a voxel outside the map is not open
-abbrev pub symbol_at : ℕ → (ℕ → Bool) → (ℕ → Cell) → Voxel → ℕ
-symbol_at depth closed cell v = symbol_from depth closed cell (index_in depth v)
-
--- f at each number below n, in order
-unfoldable pub up_to : ℕ → (ℕ → ℕ) → List ℕ
-up_to zero f = []
-up_to (suc n) f = up_to n f ++ f n ∷ []
+abbrev pub symbol_at : Shape → (ℕ → Cell) → Voxel → ℕ
+symbol_at shape cell v = symbol_from shape cell (index_in shape.depth v)
 
 -- the symbol at x of the row at y and z
-abbrev pub in_row : ℕ → (ℕ → Bool) → (ℕ → Cell) → ℕ → ℕ → ℕ → ℕ
-in_row depth closed cell y z x = symbol_at depth closed cell record { x = x; y = y; z = z }
+abbrev pub in_row : Shape → (ℕ → Cell) → ℕ → ℕ → ℕ → ℕ
+in_row shape cell y z x = symbol_at shape cell record { x = x; y = y; z = z }
 
-abbrev pub row_of : ℕ → (ℕ → Bool) → (ℕ → Cell) → ℕ → ℕ → List ℕ
-row_of depth closed cell y z = up_to (side depth) (in_row depth closed cell y z)
-
--- the word that a session has for an event
-abbrev pub name_of : Event → List ℕ
-name_of Hit = codes "hit"
-name_of Miss = codes "miss"
+-- the row's symbols from x 0 up
+abbrev pub row_of : Shape → (ℕ → Cell) → ℕ → ℕ → List ℕ
+row_of shape cell y z = map (in_row shape cell y z) (range_with_len 0 (side shape.depth))

@@ -1,10 +1,11 @@
 -- What the words of a session stand for.
-use Rattle.std.specs.Prelude.{ℕ, ◌+◌, ◌-◌, ◌*◌, ◌/◌, ◌%◌, Bool, cond, ◌&&◌, List, [], ◌∷◌, ℤ, pos, negsuc, Some, None, Option, ◌==◌, int_lt, nat_le, nat_lt}
+use Rattle.std.specs.Prelude.{◌≡◌, ℕ, ◌+◌, ◌-◌, ◌*◌, ◌/◌, ◌%◌, ◌<◌, Bool, cond, ◌&&◌, List, [], ◌∷◌, ℤ, pos, negsuc, Some, None, Option, ◌==◌, flat_map, int_lt, nat_le}
+use Rattle.std.specs.Char.{digit_char}
+use Rattle.std.specs.List.{before_first}
 
 -- a line's bytes up to its first #, which begins a comment
-unfoldable pub until_hash : List ℕ → List ℕ
-until_hash [] = []
-until_hash (c ∷ cs) = cond (c == 35) [] (c ∷ until_hash cs)
+abbrev pub until_hash : List ℕ → List ℕ
+until_hash line = before_first (λ byte. byte == 35) line
 
 -- the nearest number of 16 bits
 abbrev pub saturated : ℤ → ℤ
@@ -30,11 +31,13 @@ joined (Some high) (Some low) = Some (16 * high + low)
 abbrev pub pair_of : ℕ → ℕ → Option ℕ
 pair_of high low = joined (digit_of high) (digit_of low)
 
--- the hex digit of a value below 16, in lower case
-abbrev pub hex_digit : ℕ → ℕ
-hex_digit n = cond (nat_lt n 10) (48 + n) (87 + n)
+-- a byte's two hex digits in lower case, the high one first
+abbrev pub hex_pair : ℕ → List ℕ
+hex_pair b = digit_char (b / 16) ∷ digit_char (b % 16) ∷ []
 
--- bytes in hex digits, two to a byte, the high one first
-unfoldable pub hex_of : List ℕ → List ℕ
-hex_of [] = []
-hex_of (b ∷ bs) = hex_digit (b / 16) ∷ hex_digit (b % 16) ∷ hex_of bs
+abbrev pub hex_of : List ℕ → List ℕ
+hex_of bytes = flat_map hex_pair bytes
+
+-- a byte's two digits are read as that byte
+abbrev pub ReadsBack : Type 0
+ReadsBack = (b : ℕ) → b < 256 → pair_of (digit_char (b / 16)) (digit_char (b % 16)) ≡ Some b

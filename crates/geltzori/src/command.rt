@@ -6,6 +6,7 @@ use crate::faults::{Flaw, Line};
 use crate::hex::hex_bytes;
 use std::alloc::{AllocError, Global};
 use std::fs;
+use std::rt::Files;
 use std::str::FromStr;
 use voxels::{Cell, Event};
 
@@ -18,7 +19,7 @@ pub enum Command<'a> {
     Scan,
 }
 
-// A call on a store that was set up.
+// A call on a store that was set up. The whole session is read before any call is carried out, so a call is kept as a value.
 #[derive(Drop)]
 pub enum Call<'a> {
     Set { index: usize, value: Cell },
@@ -40,7 +41,10 @@ pub enum Call<'a> {
 pub const MOST_LENT: usize = 65536;
 
 // The call of a line, or none where the line is blank but for a comment.
-pub fn parse<'a>(rt: &HostRuntime, line: Line<'a>) -> Result<Option<Command<'a>>, Flaw> {
+pub fn parse<'a>(
+    rt: &(impl Files + AllocGlobal),
+    line: Line<'a>,
+) -> Result<Option<Command<'a>>, Flaw> {
     let words = words(rt.alloc(), uncommented(line.text))?;
     let command = match words.as_slice() {
         [] => return Ok(None),
@@ -49,12 +53,13 @@ pub fn parse<'a>(rt: &HostRuntime, line: Line<'a>) -> Result<Option<Command<'a>>
         },
         ["mask", hex @ ..] => Command::Mask(hex_bytes(rt.alloc(), hex)?),
         ["scan"] => Command::Scan,
-        call => Command::Call(parse_call(rt, line, call)?),
+        ["write-file", path] => Command::Call(Call::WriteFile { line, path: *path }),
+        call => Command::Call(parse_call(rt, call)?),
     };
     Ok(Some(command))
 }
 
-fn parse_call<'a>(rt: &HostRuntime, line: Line<'a>, words: &[&'a str]) -> Result<Call<'a>, Flaw> {
+fn parse_call<'a>(rt: &(impl Files + AllocGlobal), words: &[&str]) -> Result<Call<'a>, Flaw> {
     let call = match words {
         ["set", index, value] => Call::Set {
             index: number(index)?,
@@ -74,22 +79,21 @@ fn parse_call<'a>(rt: &HostRuntime, line: Line<'a>, words: &[&'a str]) -> Result
         ["clear"] => Call::Clear,
         ["show"] => Call::Show,
         ["page", words] => Call::Page {
-            words: page_words(words)?,
+            words: lent_size(words)?,
         },
         ["scan-file", path] => Call::Scan(file_bytes(rt, path)?),
         ["scan-hex", hex @ ..] => Call::Scan(hex_bytes(rt.alloc(), hex)?),
-        call => return parse_filing(rt, line, call),
+        call => return parse_filing(rt, call),
     };
     Ok(call)
 }
 
 // The calls on bodies.
-fn parse_filing<'a>(rt: &HostRuntime, line: Line<'a>, words: &[&'a str]) -> Result<Call<'a>, Flaw> {
+fn parse_filing<'a>(rt: &(impl Files + AllocGlobal), words: &[&str]) -> Result<Call<'a>, Flaw> {
     let call = match words {
         ["load", hex @ ..] => Call::Load(hex_bytes(rt.alloc(), hex)?),
         ["load-file", path] => Call::Load(file_bytes(rt, path)?),
         ["write"] => Call::Write,
-        ["write-file", path] => Call::WriteFile { line, path: *path },
         ["room", bytes] => Call::Room {
             bytes: lent_size(bytes)?,
         },
@@ -113,13 +117,9 @@ fn uncommented(line: &str) -> &str
 }
 
 fn words<'a>(heap: Global, text: &'a str) -> Result<Vec<&'a str>, AllocError> {
-    let mut words = Vec::new(heap);
-    for word in text.split([' ', '\t']) {
-        if !word.is_empty() {
-            words.push(word)?;
-        }
-    }
-    Ok(words)
+    text.split([' ', '\t'])
+        .filter(|word| !word.is_empty())
+        .collect(heap)
 }
 
 // A decimal number. Rust's `parse` would take a leading `+` too.
@@ -131,10 +131,7 @@ where
     if word.starts_with('+') {
         return Err(Flaw::Unreadable);
     }
-    match word.parse() {
-        Ok(number) => Ok(number),
-        Err(_) => Err(Flaw::Unreadable),
-    }
+    word.parse().map_err(|_| Flaw::Unreadable)
 }
 
 fn cell(word: &str) -> Result<Cell, Flaw> {
@@ -148,19 +145,7 @@ fn cell(word: &str) -> Result<Cell, Flaw> {
 fn saturated(number: i64) -> i16
     ensures { result ≡ saturated number }
 {
-    if number < i16::MIN as i64 {
-        i16::MIN
-    } else if number > i16::MAX as i64 {
-        i16::MAX
-    } else {
-        number as i16
-    }
-}
-
-fn page_words(word: &str) -> Result<usize, Flaw>
-    ensures { IfOk result (λ n. n ≤ 65536) }
-{
-    lent_size(word)
+    number.clamp(i16::MIN.into(), i16::MAX.into()) as i16
 }
 
 fn lent_size(word: &str) -> Result<usize, Flaw>
@@ -173,9 +158,6 @@ fn lent_size(word: &str) -> Result<usize, Flaw>
     Ok(size)
 }
 
-fn file_bytes(rt: &HostRuntime, path: &str) -> Result<Vec<u8>, Flaw> {
-    match fs::read(rt, path) {
-        Ok(bytes) => Ok(bytes),
-        Err(_) => Err(Flaw::NoFile),
-    }
+fn file_bytes(rt: &(impl Files + AllocGlobal), path: &str) -> Result<Vec<u8>, Flaw> {
+    fs::read(rt, path).map_err(|_| Flaw::NoFile)
 }

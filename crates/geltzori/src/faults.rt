@@ -35,20 +35,17 @@ pub enum Fault {
 
 impl Line<'_> {
     pub fn fault(self, heap: Global, flaw: Flaw) -> Fault {
-        match String::from_str(heap, self.text) {
-            Ok(text) => Fault::Line {
-                number: self.number,
-                flaw,
-                text,
-            },
-            Err(_) => Fault::Memory,
-        }
+        let number = self.number;
+        String::from_str(heap, self.text).map_or(
+            Fault::Memory,
+            |text| Fault::Line { number, flaw, text },
+        )
     }
 }
 
 impl fmt::Display for Flaw {
     fn fmt<W: fmt::Write>(&self, f: &mut fmt::Formatter<W>) -> fmt::Result {
-        let words = match self {
+        f.write_str(match self {
             Flaw::Unreadable => "cannot read",
             Flaw::NotUnit => "unit must come first",
             Flaw::SecondUnit => "a second unit",
@@ -57,8 +54,7 @@ impl fmt::Display for Flaw {
             Flaw::NoFile => "cannot read the file",
             Flaw::NotWritten => "cannot write the file",
             Flaw::Memory => "out of memory",
-        };
-        f.write_str(words)
+        })
     }
 }
 

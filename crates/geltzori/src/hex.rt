@@ -1,9 +1,11 @@
 // Bytes in base 16, two digits to a byte.
-ghost use Rattle.std.specs.Prelude.{◌≡◌, ◌<◌, IfOk, Some, string_bytes};
-ghost use Rattle.geltzori.specs.Words.{digit_of, hex_digit, hex_of, pair_of};
+ghost use Rattle.std.specs.Prelude.{◌≡◌};
+ghost use Rattle.std.specs.Fmt.{WritesOnOk};
+ghost use Rattle.geltzori.specs.Words.{ReadsBack, hex_of, pair_of};
 
 use crate::faults::Flaw;
-use std::alloc::{AllocError, Global};
+use std::alloc::Global;
+use std::fmt;
 
 pub fn hex_bytes(heap: Global, words: &[&str]) -> Result<Vec<u8>, Flaw> {
     let mut bytes = Vec::new(heap);
@@ -14,14 +16,11 @@ pub fn hex_bytes(heap: Global, words: &[&str]) -> Result<Vec<u8>, Flaw> {
 }
 
 fn push_hex(bytes: &mut Vec<u8>, digits: &[u8]) -> Result<(), Flaw> {
-    if digits.len() % 2 != 0 {
+    let (pairs, []) = digits.as_chunks::<2>() else {
         return Err(Flaw::Unreadable);
-    }
-    for pair in digits.chunks_exact(2) {
-        let Some(byte) = hex_byte(pair[0], pair[1]) else {
-            return Err(Flaw::Unreadable);
-        };
-        bytes.push(byte)?;
+    };
+    for [high, low] in pairs {
+        bytes.push(hex_byte(*high, *low).ok_or(Flaw::Unreadable)?)?;
     }
     Ok(())
 }
@@ -30,40 +29,18 @@ fn push_hex(bytes: &mut Vec<u8>, digits: &[u8]) -> Result<(), Flaw> {
 fn hex_byte(high: u8, low: u8) -> Option<u8>
     ensures { result ≡ pair_of high low }
 {
-    Some(16 * hex_digit(high)? + hex_digit(low)?)
+    let high = char::from(high).to_digit(16)?;
+    let low = char::from(low).to_digit(16)?;
+    Some((16 * high + low) as u8)
 }
 
-fn hex_digit(digit: u8) -> Option<u8>
-    ensures { result ≡ digit_of digit }
+// Writes bytes in lower case digits.
+pub fn write_hex<W: fmt::Write>(bytes: &[u8], f: &mut fmt::Formatter<W>) -> fmt::Result
+    ensures written { WritesOnOk W.write_str_gives f.old result (hex_of bytes.now) f.new }
+    ensures back { ReadsBack }
 {
-    match digit {
-        b'0'..=b'9' => Some(digit - b'0'),
-        b'a'..=b'f' => Some(digit - b'a' + 10),
-        b'A'..=b'F' => Some(digit - b'A' + 10),
-        _ => None,
-    }
-}
-
-// The bytes in lower case digits.
-pub fn hex_text(heap: Global, bytes: &[u8]) -> Result<String, AllocError>
-    ensures { IfOk result (λ s. string_bytes s ≡ hex_of bytes.now) }
-{
-    let mut text = String::new(heap);
     for byte in bytes {
-        text.push(digit_of(*byte / 16))?;
-        text.push(digit_of(*byte % 16))?;
+        write!(f, "{byte:02x}")?;
     }
-    Ok(text)
-}
-
-fn digit_of(value: u8) -> char
-    requires { value < 16 }
-    ensures digit { result ≡ hex_digit value }
-    ensures back { digit_of result ≡ Some value }
-{
-    if value < 10 {
-        (b'0' + value) as char
-    } else {
-        (b'a' + value - 10) as char
-    }
+    Ok(())
 }

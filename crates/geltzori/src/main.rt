@@ -11,6 +11,7 @@ mod units;
 use faults::Fault;
 use session::Session;
 use std::process::ExitCode;
+use std::rt::{Env, Files};
 use std::{env, fs, io};
 
 fn main(rt: HostRuntime) -> ExitCode {
@@ -24,12 +25,11 @@ fn main(rt: HostRuntime) -> ExitCode {
     }
 }
 
-fn run(rt: &HostRuntime) -> Result<(), Fault> {
-    let mut paths = env::args(rt)?.skip(1);
-    let Some(first) = paths.next() else {
-        return carry_out(rt, io::read_to_string(rt.alloc(), rt.stdin())?);
-    };
-    carry_out(rt, fs::read_to_string(rt, first)?)?;
+fn run(rt: &(impl Env + Input + Files + Print + AllocGlobal)) -> Result<(), Fault> {
+    let mut paths = env::args(rt)?.skip(1).peekable();
+    if paths.peek().is_none() {
+        return carry_out(rt, io::read_to_string(rt.alloc(), rt.reader())?);
+    }
     for path in paths {
         carry_out(rt, fs::read_to_string(rt, path)?)?;
     }
@@ -37,8 +37,8 @@ fn run(rt: &HostRuntime) -> Result<(), Fault> {
 }
 
 // The whole session is read before any of it is carried out, on a unit of its own.
-fn carry_out(rt: &HostRuntime, text: String) -> Result<(), Fault> {
-    match Session::parse(rt, text.as_str())? {
+fn carry_out(rt: &(impl Print + Files + AllocGlobal), text: String) -> Result<(), Fault> {
+    match Session::parse(rt, &text)? {
         Some(session) => units::run(rt, &session),
         None => Ok(()),
     }

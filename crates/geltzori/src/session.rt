@@ -7,6 +7,7 @@ ghost use Rattle.geltzori.specs.declared.faults.Flaw.TheVariants.{LateMask, Seco
 use crate::command::{Call, Command, parse};
 use crate::faults::{Fault, Flaw, Line};
 use std::alloc::{AllocError, Global};
+use std::rt::Files;
 
 #[derive(Drop)]
 pub struct Session<'a> {
@@ -26,17 +27,17 @@ pub struct MaskCall<'a> {
 
 impl<'a> Session<'a> {
     // The session of a text, or none where the text has no call.
-    pub fn parse(rt: &HostRuntime, text: &'a str) -> Result<Option<Session<'a>>, Fault> {
-        let mut session: Option<Session<'a>> = None;
+    pub fn parse(
+        rt: &(impl Files + AllocGlobal),
+        text: &'a str,
+    ) -> Result<Option<Session<'a>>, Fault> {
+        let mut session = None;
         for (at, text) in text.lines().enumerate() {
             let line = Line {
                 number: at.saturating_add(1),
                 text,
             };
-            match with_line(rt, session, line) {
-                Ok(longer) => session = longer,
-                Err(flaw) => return Err(line.fault(rt.alloc(), flaw)),
-            }
+            session = with_line(rt, session, line).map_err(|flaw| line.fault(rt.alloc(), flaw))?;
         }
         if let Some(session) = &mut session {
             session.end_scan()?;
@@ -53,7 +54,7 @@ impl<'a> Session<'a> {
         }
     }
 
-    fn read(&mut self, rt: &HostRuntime, line: Line<'a>) -> Result<(), Flaw> {
+    fn read(&mut self, rt: &(impl Files + AllocGlobal), line: Line<'a>) -> Result<(), Flaw> {
         if let Some(text) = self.scan.take() {
             return Ok(self.add_scan_line(text, line.text)?);
         }
@@ -110,7 +111,7 @@ fn push_line(text: &mut Vec<u8>, line: &str) -> Result<(), AllocError>
 }
 
 fn with_line<'a>(
-    rt: &HostRuntime,
+    rt: &(impl Files + AllocGlobal),
     session: Option<Session<'a>>,
     line: Line<'a>,
 ) -> Result<Option<Session<'a>>, Flaw> {
@@ -122,7 +123,7 @@ fn with_line<'a>(
 }
 
 // The session that a line begins, or none where the line has no call.
-fn begun<'a>(rt: &HostRuntime, line: Line<'a>) -> Result<Option<Session<'a>>, Flaw> {
+fn begun<'a>(rt: &(impl Files + AllocGlobal), line: Line<'a>) -> Result<Option<Session<'a>>, Flaw> {
     match parse(rt, line)? {
         None => Ok(None),
         Some(Command::Unit { depth }) => Ok(Some(Session::new(rt.alloc(), depth))),

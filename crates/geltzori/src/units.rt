@@ -5,10 +5,11 @@ use crate::command::Call;
 use crate::faults::{Fault, Flaw};
 use crate::replay::{introduce, replay, tell};
 use crate::session::{MaskCall, Session};
+use std::rt::Files;
 use stores::{Grid, Mask, Masked, Store};
 use voxels::voxel_count;
 
-// The masks that were laid, the first one lowest.
+// The masks that were laid, the first one lowest. They are cases and no list, as each number of them makes a store of another type.
 #[derive(Clone, Copy)]
 enum Laid {
     None,
@@ -29,16 +30,20 @@ impl Laid {
     }
 }
 
-pub fn run(rt: &HostRuntime, session: &Session<'_>) -> Result<(), Fault> {
+pub fn run(rt: &(impl Print + Files + AllocGlobal), session: &Session<'_>) -> Result<(), Fault> {
     let mut words = vec![in rt.alloc(); 0u16; voxel_count(session.depth)]?;
-    let grid = Grid::new(words.as_mut_slice(), session.depth);
+    let grid = Grid::new(&mut words, session.depth);
     introduce(rt, &grid)?;
-    let laid = lay(rt, session.masks.as_slice())?;
-    replay_under(rt, grid, laid, session.calls.as_slice())
+    let laid = session
+        .masks
+        .iter()
+        .try_fold(Laid::None, |laid, call| laid_with(rt, laid, call))?;
+    replay_under(rt, grid, laid, &session.calls)
 }
 
+// Over any store, since a type argument may not yet hold both a `&mut` and a struct with a ghost field, as `Masked<Grid>` does.
 fn replay_under<S: Store + Drop>(
-    rt: &HostRuntime,
+    rt: &(impl Print + Files + AllocGlobal),
     mut store: S,
     laid: Laid,
     calls: &[Call<'_>],
@@ -53,20 +58,16 @@ fn replay_under<S: Store + Drop>(
     }
 }
 
-fn lay(rt: &HostRuntime, masks: &[MaskCall<'_>]) -> Result<Laid, Fault> {
-    let mut laid = Laid::None;
-    for call in masks {
-        laid = laid_with(rt, laid, call)?;
-    }
-    Ok(laid)
-}
-
-fn laid_with(rt: &HostRuntime, laid: Laid, call: &MaskCall<'_>) -> Result<Laid, Fault> {
+fn laid_with(
+    rt: &(impl Print + AllocGlobal),
+    laid: Laid,
+    call: &MaskCall<'_>,
+) -> Result<Laid, Fault> {
     if let Laid::Two(..) = laid {
         return Err(call.line.fault(rt.alloc(), Flaw::ThirdMask));
     }
     let mut mask = Mask::empty();
-    let filled = mask.fill(call.bytes.as_slice());
+    let filled = mask.fill(&call.bytes);
     tell(rt, "mask", filled)?;
     if filled.is_err() {
         return Ok(laid);

@@ -100,7 +100,7 @@ fn take_back<S: Store>(store: &mut S, words: &[u16])
     }
 }
 
-// Gives every open voxel the cell that its word says, in rising index, and skips closed ones. A refused set refuses the sweep, and all cells go back. The words of the map's voxels are used up.
+// Gives every open voxel the cell that its word says, in rising index, and skips closed ones. A refused set refuses the sweep, and all cells go back. Voxels that the page has no word for are left. The words of the others are used up.
 pub fn sweep<S: Store, R: Rule>(store: &mut S, page: &mut [u16]) -> Result<Swept, Refusal>
     ensures answer { told result ≡ sweep_answer (S.shape store.old) (wanted_by R.wanted page.old (S.cell store.old)) (S.cell store.old) }
     ensures cells { (i : ℕ) → S.cell store.new i ≡ swept_cells (S.shape store.old) (wanted_by R.wanted page.old (S.cell store.old)) (S.cell store.old) (told result) i }
@@ -108,6 +108,7 @@ pub fn sweep<S: Store, R: Rule>(store: &mut S, page: &mut [u16]) -> Result<Swept
     ensures rest { (k : ℕ) → voxel_count (S.shape store.old).depth ≤ k → slice_index page.new k ≡ slice_index page.old k }
 {
     let mut swept = Swept { set: 0, skipped: 0 };
+    // By index and not by word: the index names the voxel to the store, and the words before it are handed on to be taken back.
     for index in 0..voxel_count(store.depth()).min(page.len()) {
         match visit_voxel::<S, R>(store, index, page[index]) {
             Ok(visit) => {

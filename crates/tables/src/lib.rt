@@ -1,6 +1,8 @@
 // Tables of cases with their expected answers, and code that is proved of every store from the trait alone.
 #![tactic(auto)]
 
+#[cfg(test)]
+mod answers;
 mod any_store;
 mod fills;
 mod full;

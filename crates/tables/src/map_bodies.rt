@@ -1,12 +1,13 @@
 // Bodies with what a check and a load tell of them, and maps with the bodies that are written of them.
 #[cfg(test)]
 mod tests {
+    use crate::answers::{mask_of, told, told_load};
     use crate::full::Full;
     use bodies::{Loaded, load, write};
     use std::process::Abort;
     use std::test::Fail;
-    use stores::{Grid, Mask, Masked, Store};
-    use voxels::{Cell, Refusal, Voxel, voxel_count};
+    use stores::{Grid, Masked, Store};
+    use voxels::{Cell, Voxel, voxel_count};
 
     // Voxels of the deepest map.
     const MOST: usize = 32768;
@@ -20,148 +21,92 @@ mod tests {
     struct Body {
         depth: u8,
         bytes: &'static [u8],
-        number: u8,
-        place: u32,
-        set: u32,
+        // the voxels set, where a load takes it
+        told: Result<u32, (u8, u32)>,
     }
 
     const BODIES: [Body; 16] = [
         Body {
             depth: 2,
             bytes: SEVEN,
-            number: 0,
-            place: 0,
-            set: 7,
+            told: Ok(7),
         },
         Body {
             depth: 2,
             bytes: &[0x55, 0x55],
-            number: 0,
-            place: 0,
-            set: 64,
+            told: Ok(64),
         },
         Body {
             depth: 2,
             bytes: &[],
-            number: 9,
-            place: 0,
-            set: 0,
+            told: Err((9, 0)),
         },
         Body {
             depth: 2,
             bytes: &[0x03, 0x00, 0x55],
-            number: 9,
-            place: 2,
-            set: 0,
+            told: Err((9, 2)),
         },
         Body {
             depth: 2,
             bytes: &[0x03, 0x00, 0x55, 0x55],
-            number: 11,
-            place: 2,
-            set: 0,
+            told: Err((11, 2)),
         },
         Body {
             depth: 2,
             bytes: &[0x01, 0x00, 0x00],
-            number: 12,
-            place: 2,
-            set: 0,
+            told: Err((12, 2)),
         },
         Body {
             depth: 1,
             bytes: SEVEN,
-            number: 10,
-            place: 0,
-            set: 0,
+            told: Err((10, 0)),
         },
         Body {
             depth: 3,
             bytes: b"\x0f\xc0\x31\x00\x55\x15\x03\xc0\x02\x01\xaa\x6a\x00\x0c\x10\x00",
-            number: 0,
-            place: 0,
-            set: 26,
+            told: Ok(26),
         },
         Body {
             depth: 3,
             bytes: b"\x0f\xc0\x31\x00\x55\x15\x03\xc0\x02\x01\xaa\x6a\x00\x0c\x10",
-            number: 9,
-            place: 14,
-            set: 0,
+            told: Err((9, 14)),
         },
         Body {
             depth: 3,
             bytes: b"\x0f\xc0\x31\x00\x55\x15\x03\xc0\x02\x01\xaa\x6a\x00\x0c\x10\x30",
-            number: 10,
-            place: 14,
-            set: 0,
+            told: Err((10, 14)),
         },
         Body {
             depth: 3,
             bytes: b"\x0f\xc0\x31\x00\x55\x15\x03\xc0\x02\x01\xaa\xea\x00\x0c\x10\x00",
-            number: 10,
-            place: 10,
-            set: 0,
+            told: Err((10, 10)),
         },
         Body {
             depth: 3,
             bytes: b"\x0f\xc0\x31\x00\x55\x15\x03\xc0\x02\x01\xaa\x6a\x00\x0c\x00\x00",
-            number: 11,
-            place: 14,
-            set: 0,
+            told: Err((11, 14)),
         },
         Body {
             depth: 3,
             bytes: b"\x0f\xc0\x31\x00\x55\x15\x03\xc0\x02\x01\xaa\xaa\x00\x0c\x10\x00",
-            number: 11,
-            place: 10,
-            set: 0,
+            told: Err((11, 10)),
         },
         Body {
             depth: 3,
             bytes: b"\x0f\xc0\x31\x00\x55\x15\x03\xc0\x02\x01\xaa\x6a\x55\x55",
-            number: 11,
-            place: 12,
-            set: 0,
+            told: Err((11, 12)),
         },
         Body {
             depth: 3,
             bytes: b"\x0f\xc0\x31\x00\x55\x15\x03\xc0\x55\x55\xaa\xff\x00\x0c\x10\x00",
-            number: 11,
-            place: 8,
-            set: 0,
+            told: Err((11, 8)),
         },
         Body {
             depth: 3,
             bytes: b"\x0f\xc0\x31\x00\x55\x15\x03\xc0\x02\x01\xaa\x6a\x00\x0c\x10\x00\x00",
-            number: 12,
-            place: 16,
-            set: 0,
+            told: Err((12, 16)),
         },
     ];
-
-    // By number, place, voxels set and skipped.
-    fn told_load(answer: Result<Loaded, Refusal>) -> (u8, u32, u32, u32) {
-        match answer {
-            Ok(loaded) => (0, 0, loaded.set, loaded.skipped),
-            Err(refusal) => (refusal.reason.number(), refusal.place, 0, 0),
-        }
-    }
-
-    // By number, place and length.
-    fn told_write(answer: Result<usize, Refusal>) -> (u8, u32, usize) {
-        match answer {
-            Ok(length) => (0, 0, length),
-            Err(refusal) => (refusal.reason.number(), refusal.place, 0),
-        }
-    }
-
-    fn told_check(answer: Result<(), Refusal>) -> (u8, u32) {
-        match answer {
-            Ok(()) => (0, 0),
-            Err(refusal) => (refusal.reason.number(), refusal.place),
-        }
-    }
 
     // The first words are wiped and the rest is as it was.
     fn check_page(rt: &impl Abort, page: &[u16], used: usize) {
@@ -173,10 +118,7 @@ mod tests {
     // The map's body at the front of the output, and behind it what was there.
     fn check_write<S: Store>(rt: &impl Abort, store: &S, page: &mut [u16], bytes: &[u8]) {
         let mut output = [0xEE; 20];
-        assert_eq!(rt;
-            told_write(write(store, page, &mut output)),
-            (0, 0, bytes.len())
-        );
+        assert_eq!(rt; told(write(store, page, &mut output)), Ok(bytes.len()));
         for (index, byte) in output.iter().enumerate() {
             assert_eq!(rt; *byte, bytes.get(index).copied().unwrap_or(0xEE));
         }
@@ -192,18 +134,18 @@ mod tests {
     fn each_body_is_taken_or_tells_its_number_and_place(rt: HostRuntime) {
         for body in &BODIES {
             assert_eq!(rt;
-                told_check(bodies::check(body.depth, body.bytes)),
-                (body.number, body.place)
+                told(bodies::check(body.depth, body.bytes)),
+                body.told.map(|_| ())
             );
             let mut words = [0; 512];
             let mut page = [7; 513];
             let mut grid = Grid::new(&mut words, body.depth);
             assert_eq!(rt;
                 told_load(load(&mut grid, &mut page, body.bytes)),
-                (body.number, body.place, body.set, 0)
+                body.told.map(|set| (set, 0))
             );
             check_page(&rt, &page, voxel_count(body.depth));
-            if body.number == 0 {
+            if body.told.is_ok() {
                 check_write(&rt, &grid, &mut page, body.bytes);
             } else {
                 check_empty(&rt, &grid);
@@ -215,7 +157,7 @@ mod tests {
     #[test]
     fn a_check_asks_for_a_depth(rt: HostRuntime) {
         for depth in [0, 6, 255] {
-            assert_eq!(rt; told_check(bodies::check(depth, SEVEN)), (1, 0));
+            assert_eq!(rt; told(bodies::check(depth, SEVEN)), Err((1, 0)));
         }
     }
 
@@ -230,10 +172,10 @@ mod tests {
         }
         check_write(&rt, &grid, &mut page, SEVEN);
         let mut exact = [0xEE; 4];
-        assert_eq!(rt; told_write(write(&grid, &mut page, &mut exact)), (0, 0, 4));
+        assert_eq!(rt; told(write(&grid, &mut page, &mut exact)), Ok(4));
         assert_eq!(rt; exact, [0x03, 0x00, 0x55, 0x15]);
         let mut short = [0xEE; 3];
-        assert_eq!(rt; told_write(write(&grid, &mut page, &mut short)), (18, 0, 0));
+        assert_eq!(rt; told(write(&grid, &mut page, &mut short)), Err((18, 0)));
         assert_eq!(rt; short, [0xEE; 3]);
         check_page(&rt, &page, 64);
     }
@@ -243,7 +185,7 @@ mod tests {
         let mut words = [0; 64];
         let mut page = [7; 65];
         let mut grid = Grid::new(&mut words, 2);
-        assert_eq!(rt; told_load(load(&mut grid, &mut page, SEVEN)), (0, 0, 7, 0));
+        assert_eq!(rt; told_load(load(&mut grid, &mut page, SEVEN)), Ok((7, 0)));
         for index in 0..64 {
             let cell = if index < 7 {
                 Cell::Known(-200)
@@ -261,20 +203,14 @@ mod tests {
         let mut output = [0xEE; 4];
         {
             let mut none = Grid::new(&mut words, 6);
-            assert_eq!(rt; told_load(load(&mut none, &mut page, SEVEN)), (1, 0, 0, 0));
-            assert_eq!(rt; told_write(write(&none, &mut page, &mut output)), (1, 0, 0));
+            assert_eq!(rt; told_load(load(&mut none, &mut page, SEVEN)), Err((1, 0)));
+            assert_eq!(rt; told(write(&none, &mut page, &mut output)), Err((1, 0)));
         }
         let mut grid = Grid::new(&mut words, 2);
-        assert_eq!(rt; told_load(load(&mut grid, &mut page, SEVEN)), (2, 0, 0, 0));
-        assert_eq!(rt; told_write(write(&grid, &mut page, &mut output)), (2, 0, 0));
+        assert_eq!(rt; told_load(load(&mut grid, &mut page, SEVEN)), Err((2, 0)));
+        assert_eq!(rt; told(write(&grid, &mut page, &mut output)), Err((2, 0)));
         assert_eq!(rt; output, [0xEE; 4]);
         check_page(&rt, &page, 0);
-    }
-
-    fn mask_of(rt: &impl Abort, bytes: &[u8]) -> Mask {
-        let mut mask = Mask::empty();
-        assert!(rt; mask.fill(bytes).is_ok());
-        mask
     }
 
     // The mask closes 1, 2 and 6, and 8, which the body does not speak of.
@@ -282,7 +218,7 @@ mod tests {
         let mask = mask_of(rt, &[1, 0, 2, 0, 6, 0, 1, 0, 8, 0, 1, 0]);
         let mut store = Masked::new(store, mask);
         let mut page = [7; 65];
-        assert_eq!(rt; told_load(load(&mut store, &mut page, SEVEN)), (0, 0, 4, 3));
+        assert_eq!(rt; told_load(load(&mut store, &mut page, SEVEN)), Ok((4, 3)));
         for index in 0..64 {
             let cell = if index < 7 && store.open(index) {
                 Cell::Known(-200)
@@ -299,10 +235,10 @@ mod tests {
         let mut store = store;
         let mut page = [7; 65];
         assert!(rt; store.set(63, Cell::Known(0)).is_ok());
-        assert_eq!(rt; told_load(load(&mut store, &mut page, SEVEN)), (8, 0, 0, 0));
+        assert_eq!(rt; told_load(load(&mut store, &mut page, SEVEN)), Err((8, 0)));
         let mask = mask_of(rt, &[63, 0, 1, 0]);
         let mut store = Masked::new(store, mask);
-        assert_eq!(rt; told_load(load(&mut store, &mut page, &[])), (8, 0, 0, 0));
+        assert_eq!(rt; told_load(load(&mut store, &mut page, &[])), Err((8, 0)));
         assert_eq!(rt; store.read(0), Cell::Unknown);
         assert_eq!(rt; store.read(63), Cell::Known(0));
         check_page(rt, &page, 64);
@@ -320,18 +256,18 @@ mod tests {
     fn a_load_past_the_block_limit_is_refused_at_its_first_voxel(rt: HostRuntime) {
         let mut page = [7; 65];
         let mut full = Full;
-        assert_eq!(rt; told_load(load(&mut full, &mut page, SEVEN)), (15, 0, 0, 0));
+        assert_eq!(rt; told_load(load(&mut full, &mut page, SEVEN)), Err((15, 0)));
         assert_eq!(rt;
             told_load(load(&mut full, &mut page, &[0x01, 0x00])),
-            (15, 0, 0, 0)
+            Err((15, 0))
         );
         assert_eq!(rt;
             told_load(load(&mut full, &mut page, &[0x00, 0x02])),
-            (15, 32, 0, 0)
+            Err((15, 32))
         );
         assert_eq!(rt;
             told_load(load(&mut full, &mut page, &[0x00, 0x00])),
-            (0, 0, 0, 0)
+            Ok((0, 0))
         );
         check_empty(&rt, &full);
         check_page(&rt, &page, 64);
@@ -345,13 +281,13 @@ mod tests {
         output: &mut [u8],
         again: &mut [u8],
     ) -> Result<(usize, u32), Fail> {
-        let (_, _, length) = told_write(write(store, page, output));
+        let length = write(store, page, output).map_err(|_| "a refused write")?;
         let body = output.get(..length).ok_or("longer than the output")?;
-        assert_eq!(rt; told_check(bodies::check(store.depth(), body)), (0, 0));
+        assert_eq!(rt; told(bodies::check(store.depth(), body)), Ok(()));
         store.clear();
-        let (number, _, set, skipped) = told_load(load(store, page, body));
-        assert_eq!(rt; (number, skipped), (0, 0));
-        assert_eq!(rt; told_write(write(store, page, again)), (0, 0, length));
+        let Loaded { set, skipped } = load(store, page, body).map_err(|_| "a refused load")?;
+        assert_eq!(rt; skipped, 0);
+        assert_eq!(rt; told(write(store, page, again)), Ok(length));
         assert!(rt; again.get(..length).ok_or("longer than the output")? == body);
         Ok((length, set))
     }

@@ -1,12 +1,13 @@
 // Scans of a map of depth 1 with what they tell and leave, and texts with their refusals.
 #[cfg(test)]
 mod tests {
+    use crate::answers::{mask_of, told_scan};
     use crate::full::Full;
-    use scans::{Scanned, scan};
+    use scans::scan;
     use std::process::Abort;
     use std::test::Fail;
-    use stores::{Grid, Mask, Masked, Store};
-    use voxels::{Refusal, State};
+    use stores::{Grid, Masked, Store};
+    use voxels::State;
 
     struct Case {
         text: &'static [u8],
@@ -184,14 +185,6 @@ mod tests {
         }
     }
 
-    // By number, place, bytes used, voxels set and skipped.
-    fn told(answer: Result<Scanned, Refusal>) -> (u8, u32, usize, u32, u32) {
-        match answer {
-            Ok(scanned) => (0, 0, scanned.used, scanned.set, scanned.skipped),
-            Err(refusal) => (refusal.reason.number(), refusal.place, 0, 0, 0),
-        }
-    }
-
     #[test]
     fn scans_of_an_empty_map(rt: HostRuntime) {
         for case in &SCANS {
@@ -199,8 +192,8 @@ mod tests {
             let mut page = [7; 9];
             let mut grid = Grid::new(&mut words, 1);
             assert_eq!(rt;
-                told(scan(&mut grid, &mut page, case.text)),
-                (0, 0, case.used, case.set, 0)
+                told_scan(scan(&mut grid, &mut page, case.text)),
+                Ok((case.used, case.set, 0))
             );
             for (index, expected) in case.states.iter().enumerate() {
                 assert_eq!(rt; symbol(grid.read(index).state()), *expected);
@@ -216,20 +209,18 @@ mod tests {
             let mut page = [7; 9];
             let mut grid = Grid::new(&mut words, 1);
             assert_eq!(rt;
-                told(scan(&mut grid, &mut page, case.text)),
-                (case.number, case.place, 0, 0, 0)
+                told_scan(scan(&mut grid, &mut page, case.text)),
+                Err((case.number, case.place))
             );
             assert_eq!(rt; page, [0, 0, 0, 0, 0, 0, 0, 0, 7]);
         }
     }
 
     fn skips_under<S: Store + Drop>(rt: &impl Abort, store: S) {
-        let mut mask = Mask::empty();
-        assert!(rt; mask.fill(&[1, 0, 1, 0]).is_ok());
-        let mut store = Masked::new(store, mask);
+        let mut store = Masked::new(store, mask_of(rt, &[1, 0, 1, 0]));
         let mut page = [0; 8];
         let answer = scan(&mut store, &mut page, b"O 10 10 10\nH 100 10 10\nE\n");
-        assert_eq!(rt; told(answer), (0, 0, 25, 1, 1));
+        assert_eq!(rt; told_scan(answer), Ok((25, 1, 1)));
         assert_eq!(rt; symbol(store.read(0).state()), b'.');
         assert_eq!(rt; symbol(store.read(1).state()), b'?');
     }
@@ -246,10 +237,10 @@ mod tests {
         let mut page = [7; 7];
         {
             let mut none = Grid::new(&mut words, 6);
-            assert_eq!(rt; told(scan(&mut none, &mut page, b"X")), (1, 0, 0, 0, 0));
+            assert_eq!(rt; told_scan(scan(&mut none, &mut page, b"X")), Err((1, 0)));
         }
         let mut grid = Grid::new(&mut words, 1);
-        assert_eq!(rt; told(scan(&mut grid, &mut page, b"X")), (2, 0, 0, 0, 0));
+        assert_eq!(rt; told_scan(scan(&mut grid, &mut page, b"X")), Err((2, 0)));
         assert_eq!(rt; page, [7; 7]);
     }
 
@@ -258,13 +249,13 @@ mod tests {
     fn a_scan_past_the_block_limit_is_refused_at_its_first_voxel(rt: HostRuntime) {
         let mut page = [7; 65];
         let text = b"O 96 96 96\nF 224 96 96\nE\n";
-        assert_eq!(rt; told(scan(&mut Full, &mut page, text)), (15, 7, 0, 0, 0));
+        assert_eq!(rt; told_scan(scan(&mut Full, &mut page, text)), Err((15, 7)));
         for (index, word) in page.iter().enumerate() {
             assert_eq!(rt; *word, if index < 64 { 0 } else { 7 });
         }
         assert_eq!(rt;
-            told(scan(&mut Full, &mut page, b"O 96 96 96\nE\n")),
-            (0, 0, 13, 0, 0)
+            told_scan(scan(&mut Full, &mut page, b"O 96 96 96\nE\n")),
+            Ok((13, 0, 0))
         );
     }
 
@@ -286,13 +277,13 @@ mod tests {
         let mut grid = Grid::new(&mut words, 1);
         let most = with_returns(&rt, 512)?;
         assert_eq!(rt;
-            told(scan(&mut grid, &mut page, most.as_slice())),
-            (0, 0, 4106, 0, 0)
+            told_scan(scan(&mut grid, &mut page, most.as_slice())),
+            Ok((4106, 0, 0))
         );
         let more = with_returns(&rt, 513)?;
         assert_eq!(rt;
-            told(scan(&mut grid, &mut page, more.as_slice())),
-            (7, 4104, 0, 0, 0)
+            told_scan(scan(&mut grid, &mut page, more.as_slice())),
+            Err((7, 4104))
         );
         Ok(())
     }

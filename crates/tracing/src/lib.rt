@@ -26,7 +26,8 @@ pub struct Ray {
 }
 
 // Marks the voxels that the line passes, all but the end voxel's; a voxel that was hit stays so. Returns the steps of the walk.
-// Where an end lies outside the map, or the page has too few words, the page is left and 0 returned.
+// Where an end lies outside the map, or the page has too few words, the page is left and 0 returned: the line has no steps there, and no caller needs to know why.
+// Page and depth stay two parameters: a struct of both would be made at each call, and would owe a clause more each time, that it still holds the same page.
 pub fn trace(page: &mut [u16], depth: u8, ray: Ray) -> usize
     ensures marks { (i : ℕ) → slice_index page.new i ≡ traced_word depth ray.origin ray.end page.old i }
     ensures steps { result ≡ (if traceable depth ray.origin ray.end page.old then crossings ray.origin ray.end 0 + crossings ray.origin ray.end 1 + crossings ray.origin ray.end 2 else 0) }

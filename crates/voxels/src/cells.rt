@@ -4,7 +4,7 @@ ghost use Rattle.voxels.specs.Texts.{cell_text, event_text};
 
 use std::fmt;
 
-// The log-odds of a voxel in hundredths, once something was seen of it.
+// The log-odds of a voxel in hundredths, once something was seen of it. No `Option<i16>`: a cell has a range, a word and a state, which are methods of its own.
 #[derive(Clone, Copy, PartialEq, Eq, Debug)]
 pub enum Cell {
     Unknown,
@@ -68,7 +68,7 @@ impl Cell {
         }
     }
 
-    // The cell as a word of lent memory. A number outside the range is kept as unknown is, by 0.
+    // The cell as a word of lent memory; a name and no `From`, as with a float's bits: a word is one coding of a cell. A number outside the range is kept as unknown is, by 0.
     pub fn word(self) -> u16
         ensures value { result ≡ cell_word self }
         ensures back { in_range self ≡ true → word_cell result ≡ self }

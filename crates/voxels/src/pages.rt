@@ -5,7 +5,8 @@ ghost use Rattle.voxels.specs.Refusals.{taken, told};
 use crate::refusals::{Reason, Refusal};
 use crate::space::voxel_count;
 
-// A lent work page. When the guard ends, on whatever way out, it wipes a word for each voxel of a map of its depth; a page with fewer words it leaves.
+// A lent work page. It holds the whole page, and what works on the voxels' words says that those behind them stay: of a guard over a part of the page proofs lose the tie to the rest.
+// When the guard ends, on whatever way out, it wipes a word for each voxel of a map of its depth; a page with fewer words it leaves.
 pub struct WorkPage<'a> {
     pub words: &'a mut [u16],
     pub depth: u8,

@@ -1,15 +1,18 @@
-use Rattle.std.proofs.Common.{vec_len}
-use Rattle.geltzori.proofs.Filing.{front_long, front_body}
+use Rattle.std.proofs.Common.{◌∙◌, ap₂}
+use Rattle.bodies.specs.Writes.{write_answer}
+use Rattle.geltzori.proofs.Filing.{front_body}
 use Rattle.geltzori.proofs.replay.Lent.body.Goals as goal
 
 pub slice_bounds-result-end : goal.slice_bounds-result-end
 slice_bounds-result-end g c =
-    front_long (g.S.Store.depth c.args.store.now) (g.S.Store.cell c.args.store.now) (vec_len c.args.self.now.page) (vec_len c.args.self.now.output)
-    _ _ c.as_mut_slice.ensures.len c.as_mut_slice-2.ensures.len c.in_ok-length.length c.in_ok-length.ensures.answer
-    _ _ _ c.as_slice.result.now c.in_ok-length.ensures.bytes c.as_slice.ensures.value
+    let depth = (g.S.Store.shape c.args.store.now).depth in
+    let cells = g.S.Store.cell c.args.store.now in
+    let answer = c.in_ok-length.ensures.answer ∙ ap₂ (write_answer depth cells) c.deref_mut.ensures.len c.deref_mut-2.ensures.len in
+    (front_body depth cells _ _ c.in_ok-length.length answer c.write.new.output _ _ c.deref.result.now c.in_ok-length.ensures.bytes c.deref.ensures.value).0
 
 pub returns : goal.returns
 returns g c =
-    front_body (g.S.Store.depth c.args.store.now) (g.S.Store.cell c.args.store.now) (vec_len c.args.self.now.page) (vec_len c.args.self.now.output)
-    _ _ c.as_mut_slice.ensures.len c.as_mut_slice-2.ensures.len c.in_ok-length.length c.in_ok-length.ensures.answer
-    _ _ _ c.as_slice.result.now c.in_ok-length.ensures.bytes c.as_slice.ensures.value
+    let depth = (g.S.Store.shape c.args.store.now).depth in
+    let cells = g.S.Store.cell c.args.store.now in
+    let answer = c.in_ok-length.ensures.answer ∙ ap₂ (write_answer depth cells) c.deref_mut.ensures.len c.deref_mut-2.ensures.len in
+    (front_body depth cells _ _ c.in_ok-length.length answer c.write.new.output _ _ c.deref.result.now c.in_ok-length.ensures.bytes c.deref.ensures.value).1
