@@ -4,7 +4,7 @@ ghost use Rattle.bodies.specs.Reads.{Kept};
 
 use voxels::State;
 
-// An aligned cube of a map: the 8 ^ level voxels from index `first` on.
+// An aligned cube of a map: the 8 ^ level voxels from index `first` on. It is an index and no part of the words, as a body that is only judged has no words.
 #[derive(Clone, Copy)]
 pub struct Cube {
     pub level: u8,

@@ -53,7 +53,7 @@ const FREE: i16 = -200;
 // What a load makes of an occupied voxel.
 const OCCUPIED: i16 = 350;
 
-// A word with a state's code gives its voxel a cell of that state; unknown gives none.
+// A word with a state's code gives its voxel a cell of that state; unknown gives none. The words are this crate's own codes, so a match says it and no conversion is needed.
 struct ByState;
 
 impl Rule for ByState {

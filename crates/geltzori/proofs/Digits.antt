@@ -1,11 +1,9 @@
 -- The hex digits of bytes, byte by byte.
-use Rattle.std.proofs.Common.{◌≡◌, ℕ, ◌+◌, ◌-◌, ◌^◌, ◌/◌, ◌%◌, ◌<◌, Some, arith, false, List, [], ◌++◌, length, get_or, take, sym, ap, ◌∙◌}
-use Rattle.std.proofs.lemmas.Bool.Decides.{nat_tests}
+use Rattle.std.proofs.Common.{◌≡◌, ℕ, ◌+◌, ◌-◌, ◌^◌, ◌<◌, false, List, [], ◌++◌, length, get_or, take, sym, ap, ◌∙◌}
 use Rattle.std.proofs.lemmas.Fmt.{hex_byte}
 use Rattle.std.proofs.lemmas.List.{flat_map_more, take_more}
-use Rattle.std.specs.Char.{digit_char}
 use Rattle.std.specs.Fmt.{digits, format_spec, padded_integral}
-use Rattle.geltzori.specs.Words.{ReadsBack, digit_of, hex_of, hex_pair}
+use Rattle.geltzori.specs.Words.{hex_of, hex_pair}
 
 -- what one more byte adds, as `{:02x}` writes it
 pub one_more : (bytes : List ℕ) (i : ℕ) → i < length bytes → get_or bytes i 0 < 256
@@ -14,12 +12,3 @@ one_more bytes i inside small =
     ap (λ l. hex_of (take i bytes) ++ l) (hex_byte false (get_or bytes i 0) small)
     ∙ flat_map_more hex_pair [] (take i bytes) (get_or bytes i 0)
     ∙ sym (ap hex_of (take_more bytes i 0 inside))
-
-digit_back : (n : ℕ) → n < 16 → digit_of (digit_char n) ≡ Some n
-digit_back n small = grind (arith, nat_tests)
-
-pub reads_back : ReadsBack
-reads_back b small =
-    let high = digit_back (b / 16) (omega arith) in
-    let low = digit_back (b % 16) (omega arith) in
-    rw (high, low) (ap Some (omega arith))

@@ -1,7 +1,7 @@
 // Bytes in base 16, two digits to a byte.
 ghost use Rattle.std.specs.Prelude.{◌≡◌};
 ghost use Rattle.std.specs.Fmt.{WritesOnOk};
-ghost use Rattle.geltzori.specs.Words.{ReadsBack, hex_of, pair_of};
+ghost use Rattle.geltzori.specs.Words.{ReadsBack, digit_of, hex_of, pair_of};
 
 use crate::faults::Flaw;
 use std::alloc::Global;
@@ -29,9 +29,13 @@ fn push_hex(bytes: &mut Vec<u8>, digits: &[u8]) -> Result<(), Flaw> {
 fn hex_byte(high: u8, low: u8) -> Option<u8>
     ensures { result ≡ pair_of high low }
 {
-    let high = char::from(high).to_digit(16)?;
-    let low = char::from(low).to_digit(16)?;
-    Some((16 * high + low) as u8)
+    Some(16 * hex_digit(high)? + hex_digit(low)?)
+}
+
+fn hex_digit(digit: u8) -> Option<u8>
+    ensures { result ≡ digit_of digit }
+{
+    char::from(digit).to_digit(16).map(|value| value as u8)
 }
 
 // Writes bytes in lower case digits.

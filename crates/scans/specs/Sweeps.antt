@@ -11,14 +11,14 @@ abbrev pub mark_event : ℕ → Option Event
 mark_event w = cond (w == miss_mark) (Some Miss) (cond (w == hit_mark) (Some Hit) None)
 
 -- what a cell is to become by what was seen of its voxel
-abbrev pub seen : Option Event → Cell → Option Cell
-seen None c = None
-seen (Some e) c = Some (updated c e)
+abbrev pub seen_cell : Option Event → Cell → Option Cell
+seen_cell None c = None
+seen_cell (Some e) c = Some (updated c e)
 
 -- what each voxel is to become by what was seen of it
 abbrev pub wanted_by : (ℕ → Option Event) → (ℕ → Cell) → ℕ → Option Cell
-wanted_by events cells i = seen (events i) (cells i)
+wanted_by events cells i = seen_cell (events i) (cells i)
 
 -- what a cell is to become by its voxel's mark
 abbrev pub marked_cell : ℕ → Cell → Option Cell
-marked_cell mark c = seen (mark_event mark) c
+marked_cell mark c = seen_cell (mark_event mark) c

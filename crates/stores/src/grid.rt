@@ -74,7 +74,7 @@ impl Store for Grid<'_> {
     }
 }
 
-// The depth asked for, where it is one and there is a word for each voxel.
+// The depth asked for, where it is one and there is a word for each voxel; else 0 and no error, as a store without a voxel is a store too.
 fn held_depth(depth: u8, words: usize) -> u8
     ensures { result ≡ grid_depth depth words }
 {

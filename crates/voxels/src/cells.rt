@@ -90,6 +90,7 @@ impl Cell {
         }
     }
 
+    // A method and no `From`, since it forgets the number.
     pub fn state(self) -> State
         ensures { result ≡ state_of self }
     {

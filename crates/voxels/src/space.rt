@@ -94,7 +94,7 @@ impl Voxel {
     }
 }
 
-// Voxels along an axis of a map of that depth, 0 where no map has it.
+// Voxels along an axis of a map of that depth. Where no map has it that is 0, a count and no refusal.
 pub fn side(depth: u8) -> u16
     ensures { result ≡ side depth }
 {
