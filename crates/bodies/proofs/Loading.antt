@@ -1,5 +1,5 @@
 -- What check and load answer: malformed just where no map writes the body, and the same bytes written again.
-use Rattle.std.proofs.Common.{◌≡◌, ℕ, ◌+◌, ◌^◌, ◌<◌, ◌≤◌, Bool, true, false, cond, not, ◌&&◌, leb, List, get_or, ℤ, is_some, Some, None, Option, sym, refl, ap, ◌∙◌, subst, ⊎_elim, arith}
+use Rattle.std.proofs.Common.{◌≡◌, ℕ, ◌+◌, ◌^◌, ◌<◌, ◌≤◌, Bool, true, false, cond, not, ◌&&◌, leb, List, get_or, is_some, Some, None, Option, sym, refl, ap, ◌∙◌, subst, ⊎_elim, arith}
 use Rattle.std.proofs.lemmas.Bool.{and_from, both_ways, cases_Bool, cases_lt, cond-true, cond-false, le-leb, lt-ltb, true≢false}
 use Rattle.voxels.specs.Bounded.{count, first, some}
 use Rattle.voxels.specs.Cells.{state_of}
@@ -10,7 +10,7 @@ use Rattle.voxels.specs.declared.cells.Cell as cell
 use Rattle.voxels.specs.declared.cells.State.{State}
 use Rattle.voxels.specs.declared.cells.State.TheVariants.{Unknown, Free, Occupied}
 use Rattle.voxels.proofs.Blocks.{count_depth, map_depth}
-use Rattle.voxels.proofs.Bounds.{count_zero, some_fails, some_has, some_none}
+use Rattle.voxels.proofs.Bounds.{count_zero, some_fails, some_none}
 use Rattle.voxels.proofs.WorkPages.{over_enough}
 use Rattle.stores.specs.Sets.{is_open}
 use Rattle.stores.specs.Shapes.{Shape}
@@ -101,13 +101,6 @@ module _ (shape : Shape) (cells : ℕ → Cell) (body : List ℕ) where
   -- into an empty map it rests on the body alone
   pub load_states : ((i : ℕ) → cells i ≡ Cell.Unknown) → body_answer shape cells body ≡ states_answer shape cells (read_body shape.depth body)
   load_states empty = cond-false (some (voxel_count shape.depth) (λ i. is_known (cells i))) _ _ (some_none (voxel_count shape.depth) (λ i. is_known (cells i)) (λ i h. ap is_known (empty i)))
-
--- whether any of the cells is known
-pub known_some : (cells : ℕ → Cell) (n i : ℕ) (v : ℤ) → i < n → cell.TheVariants.Known v ≡ cells i → true ≡ some n (λ k. is_known (cells k))
-known_some cells n i v inside is = sym (some_has n (λ k. is_known (cells k)) i inside (sym (ap is_known is)))
-
-pub known_none : (cells : ℕ → Cell) (n m : ℕ) → ((k : ℕ) → k < m → is_known (cells k) ≡ false) → m ≡ n → false ≡ some n (λ k. is_known (cells k))
-known_none cells n m none whole = sym (some_none n (λ k. is_known (cells k)) (λ k h. none k (omega (arith, whole))))
 
 known_not : (c : Cell) → is_known c ≡ false → c ≡ Cell.Unknown
 known_not cell.TheVariants.Unknown e = refl

@@ -3,9 +3,8 @@ use Rattle.std.proofs.Common.{◌≡◌, ℕ, zero, suc, ◌+◌, ◌*◌, ◌^�
 use lib.ListN.{get_or-replicate, length-replicate}
 use Rattle.std.proofs.lemmas.Nat.{mul-add-lt}
 use Rattle.std.proofs.lemmas.List.{get_or_append_left, get_or-append-add}
-use Rattle.std.proofs.lemmas.Bool.{cases_eq, cond_both, cond-true, cond-false, eq-eqb, eqb-true, eqb-false}
+use Rattle.std.proofs.lemmas.Bool.{cases_eq, cond-false, cond-true, cond_both, eq-eqb, eqb-false, eqb-true, false_from_ne_true}
 use Rattle.voxels.proofs.Blocks.{eight_pos}
-use Rattle.voxels.proofs.Bounds.{never_true}
 use Rattle.voxels.specs.declared.cells.State.{State}
 use Rattle.bodies.specs.Bodies.{joined, child_first, child_codes, body_of}
 use Rattle.bodies.specs.Codes.{child_code, code_state, cube_code, pair_of, state_code, uniform}
@@ -113,7 +112,7 @@ whole_back level root a b bytes states next rest h k fine c =
     let pair : a ∷ b ∷ [] ≡ pair_of codes = sym (pair_same codes code c.3 ∙ pair_again a b h k) in
     let under = joined 8 (child_body level (listed states) 0) in
     let one : a ∷ b ∷ bytes ≡ body_of (suc level) (listed states) 0 ++ rest = ap₂ ◌++◌ pair c.0 ∙ sym (append_assoc (pair_of codes) under rest) ∙ ap (λ bs. bs ++ rest) (sym (body_more level (listed states) 0)) in
-    (one, c.1, λ below. never_true _ (λ is. not_merged (suc level) root code (state_code (listed states 0)) fine below (state_small (listed states 0)) (λ j l. sym (c.3 j l) ∙ child_code_lem level (listed states) 0 is j l)))
+    (one, c.1, λ below. false_from_ne_true _ (λ is. not_merged (suc level) root code (state_code (listed states 0)) fine below (state_small (listed states 0)) (λ j l. sym (c.3 j l) ∙ child_code_lem level (listed states) 0 is j l)))
 
 fault_back : (level : ℕ) (root : Bool) (at a b : ℕ) (bytes : List ℕ) (fault : Option ℕ) (reading : Reading) → a < 256 → b < 256 → pair_fault (suc level) root (child_code a b) ≡ fault → Children level (child_code a b) 8 bytes reading → Pair (suc level) root (a ∷ b ∷ bytes) (fault_or fault at reading)
 fault_back level root at a b bytes None (read states next rest) h k e c = whole_back level root a b bytes states next rest h k e c

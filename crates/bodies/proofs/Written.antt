@@ -3,9 +3,9 @@ use Rattle.std.proofs.Common.{◌≡◌, ℕ, zero, suc, ◌+◌, ◌*◌, ◌^�
 use Rattle.std.specs.List.{range_with_len}
 use Rattle.std.proofs.lemmas.List.FromFn.{length-map-range_with_len, get_or-map-range_with_len}
 use Rattle.std.proofs.lemmas.List.{append-nil, append_assoc, map-append, length-append}
-use Rattle.std.proofs.lemmas.Bool.{true≢false, both_ways, not-true, and_parts, cases_Bool, cond-true, cond-false, cond_both}
+use Rattle.std.proofs.lemmas.Bool.{and_parts, both_ways, cases_Bool, cond-false, cond-true, cond_both, false_from_ne_true, not-true, true≢false}
 use Rattle.voxels.proofs.Blocks.{count_depth, count_none, depth_above}
-use Rattle.voxels.proofs.Bounds.{never_true, some_none}
+use Rattle.voxels.proofs.Bounds.{some_none}
 use Rattle.voxels.specs.Bounded.{all, some}
 use Rattle.voxels.specs.Cells.{state_of}
 use Rattle.voxels.specs.Refusals.{taken}
@@ -46,7 +46,7 @@ written_merges : (level : ℕ) (states : ℕ → State) (first : ℕ) → unifor
 written_merges level states first mixed =
     let free = eqb (child_codes level states first 0) 3 in
     let equal = all 8 (λ j. eqb (child_codes level states first j) (child_codes level states first 0)) in
-    never_true (not free && equal) (λ is. let parts = and_parts (not free) equal is in both_ways _ mixed (uniform_merged level states first parts.1 (not-true free parts.0)))
+    false_from_ne_true (not free && equal) (λ is. let parts = and_parts (not free) equal is in both_ways _ mixed (uniform_merged level states first parts.1 (not-true free parts.0)))
 
 -- no pair of a written body is at fault
 written_fault : (level : ℕ) (states : ℕ → State) (first : ℕ) (root : Bool) → (root ≡ false → uniform (suc level) states first ≡ false) → pair_fault (suc level) root (child_codes level states first) ≡ None

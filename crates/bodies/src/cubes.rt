@@ -26,14 +26,14 @@ impl Cube {
         }
     }
 
-    // Its voxels.
+    // How many voxels it has.
     pub fn size(self) -> usize
         ensures { result ≡ 8 ^ self.level }
     {
         8usize.pow(u32::from(self.level))
     }
 
-    // The cube of a child, from 0 to 7.
+    // The cube of a child, from 0 to 7. Children are numbers and no enum: they are digits of an index.
     pub fn child(self, child: usize) -> Cube
         requires below { 1 ≤ self.level }
         requires one { child < 8 }

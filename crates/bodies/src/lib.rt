@@ -11,5 +11,6 @@ mod writes;
 
 pub use checks::{check, verdict};
 pub use loads::load;
+// What a load came to. Its callers need not know that a sweep made it.
 pub use stores::Swept as Loaded;
 pub use writes::write;

@@ -24,7 +24,7 @@ pub fn load<S: Store>(store: &mut S, page: &mut [u16], body: &[u8]) -> Result<Sw
     load_over(store, guard.words, body)
 }
 
-// The load itself, over a page that somebody else wipes.
+// The load itself, over a page that its caller wipes. That the words behind the voxels stay is a clause: a guard over a part of the page would lose its tie to the rest (`WorkPage`).
 fn load_over<S: Store>(store: &mut S, page: &mut [u16], body: &[u8]) -> Result<Swept, Refusal>
     requires some { 1 ≤ (S.shape store.old).depth }
     requires long { voxel_count (S.shape store.old).depth ≤ length page.old }

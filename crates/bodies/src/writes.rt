@@ -26,7 +26,7 @@ pub fn write<S: Store>(store: &S, page: &mut [u16], output: &mut [u8]) -> Result
     write_over(store, guard.words, output)
 }
 
-// The write itself, over words that somebody else wipes.
+// The write itself, over a page that its caller wipes. That the words behind the voxels stay is a clause: a guard over a part of the page would lose its tie to the rest (`WorkPage`).
 fn write_over<S: Store>(store: &S, words: &mut [u16], output: &mut [u8]) -> Result<usize, Refusal>
     requires some { 1 ≤ (S.shape store.now).depth }
     requires long { voxel_count (S.shape store.now).depth ≤ length words.old }

@@ -134,6 +134,7 @@ where
     word.parse().map_err(|_| Flaw::Unreadable)
 }
 
+// The cell that a session writes so. How sessions write cells is no business of `voxels`, so this is no `FromStr`.
 fn cell(word: &str) -> Result<Cell, Flaw> {
     match word {
         "unknown" => Ok(Cell::Unknown),

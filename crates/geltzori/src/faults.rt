@@ -1,18 +1,27 @@
 // What can go wrong in a session, as it is told on standard error.
-use std::alloc::{AllocError, AllocFailed, Global};
-use std::{fmt, io};
+use std::alloc::{AllocError, Global};
+use std::io;
+use thiserror::Error;
 
 // What is wrong with a line.
-#[derive(Clone, Copy, Debug)]
+#[derive(Debug, Drop, Error)]
 pub enum Flaw {
+    #[error("cannot read")]
     Unreadable,
+    #[error("unit must come first")]
     NotUnit,
+    #[error("a second unit")]
     SecondUnit,
+    #[error("mask after other calls")]
     LateMask,
+    #[error("two masks are laid already")]
     ThirdMask,
+    #[error("cannot read the file")]
     NoFile,
+    #[error("cannot write the file")]
     NotWritten,
-    Memory,
+    #[error("out of memory")]
+    Memory(#[from(alloc)] AllocError),
 }
 
 // A line of a session as errors name it.
@@ -22,10 +31,13 @@ pub struct Line<'a> {
     pub text: &'a str,
 }
 
-#[derive(Debug, Drop)]
+#[derive(Debug, Drop, Error)]
 pub enum Fault {
-    Memory,
-    Io(io::Error),
+    #[error("out of memory")]
+    Memory(#[from(alloc)] AllocError),
+    #[error(transparent)]
+    Io(#[from] io::Error),
+    #[error("line {number}: {flaw}: {text}")]
     Line {
         number: usize,
         flaw: Flaw,
@@ -35,59 +47,13 @@ pub enum Fault {
 
 impl Line<'_> {
     pub fn fault(self, heap: Global, flaw: Flaw) -> Fault {
-        let number = self.number;
-        String::from_str(heap, self.text).map_or(
-            Fault::Memory,
-            |text| Fault::Line { number, flaw, text },
-        )
-    }
-}
-
-impl fmt::Display for Flaw {
-    fn fmt<W: fmt::Write>(&self, f: &mut fmt::Formatter<W>) -> fmt::Result {
-        f.write_str(match self {
-            Flaw::Unreadable => "cannot read",
-            Flaw::NotUnit => "unit must come first",
-            Flaw::SecondUnit => "a second unit",
-            Flaw::LateMask => "mask after other calls",
-            Flaw::ThirdMask => "two masks are laid already",
-            Flaw::NoFile => "cannot read the file",
-            Flaw::NotWritten => "cannot write the file",
-            Flaw::Memory => "out of memory",
-        })
-    }
-}
-
-impl fmt::Display for Fault {
-    fn fmt<W: fmt::Write>(&self, f: &mut fmt::Formatter<W>) -> fmt::Result {
-        match self {
-            Fault::Memory => f.write_str("out of memory"),
-            Fault::Io(error) => write!(f, "{error}"),
-            Fault::Line { number, flaw, text } => write!(f, "line {number}: {flaw}: {text}"),
+        match String::from_str(heap, self.text) {
+            Ok(text) => Fault::Line {
+                number: self.number,
+                flaw,
+                text,
+            },
+            Err(error) => Fault::Memory(error),
         }
-    }
-}
-
-impl From<AllocError> for Flaw {
-    fn from(_error: AllocError) -> Flaw {
-        Flaw::Memory
-    }
-}
-
-impl<T: Drop> From<AllocFailed<T>> for Flaw {
-    fn from(_error: AllocFailed<T>) -> Flaw {
-        Flaw::Memory
-    }
-}
-
-impl From<AllocError> for Fault {
-    fn from(_error: AllocError) -> Fault {
-        Fault::Memory
-    }
-}
-
-impl From<io::Error> for Fault {
-    fn from(error: io::Error) -> Fault {
-        Fault::Io(error)
     }
 }

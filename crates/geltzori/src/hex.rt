@@ -15,6 +15,7 @@ pub fn hex_bytes(heap: Global, words: &[&str]) -> Result<Vec<u8>, Flaw> {
     Ok(bytes)
 }
 
+// The digits of a word, behind the bytes of those before it; the crate `hex` would make a list for each word.
 fn push_hex(bytes: &mut Vec<u8>, digits: &[u8]) -> Result<(), Flaw> {
     let (pairs, []) = digits.as_chunks::<2>() else {
         return Err(Flaw::Unreadable);
@@ -38,7 +39,7 @@ fn hex_digit(digit: u8) -> Option<u8>
     char::from(digit).to_digit(16).map(|value| value as u8)
 }
 
-// Writes bytes in lower case digits.
+// Writes bytes in lower case digits, straight to the output: no text of them is kept.
 pub fn write_hex<W: fmt::Write>(bytes: &[u8], f: &mut fmt::Formatter<W>) -> fmt::Result
     ensures written { WritesOnOk W.write_str_gives f.old result (hex_of bytes.now) f.new }
     ensures back { ReadsBack }

@@ -6,7 +6,7 @@ use Rattle.voxels.specs.declared.space.Position.{Position}
 use Rattle.tracing.specs.Lines.{passes, same_voxel}
 use Rattle.tracing.specs.Marks.{ended_word, passed_mark, traceable, traced_word}
 use Rattle.scans.specs.LineMarks.{MarkedBy, mark_by}
-use Rattle.scans.specs.Scans.{any_return, is_hit_by, is_passed_by, seen_by}
+use Rattle.scans.specs.Scans.{is_hit_by, is_passed_by, seen_by}
 use Rattle.scans.specs.Sweeps.{mark_event}
 use Rattle.scans.specs.Texts.{Return, outside, since}
 use Rattle.voxels.specs.declared.cells.Event.TheVariants.{Hit, Miss}
@@ -22,7 +22,6 @@ mark_law false false true false = refl
 mark_law false false false p = refl
 
 pub line_marked : (depth : ℕ) (o p : Position) (rs : List Return) (is_hit : Bool) (page traced marked : List ℕ) → MarkedBy depth (since o rs) page → traceable depth o p page ≡ true → ((i : ℕ) → get_or traced i 0 ≡ traced_word depth o p page i) → ((i : ℕ) → i < voxel_count depth → get_or marked i 0 ≡ cond (is_hit && same_voxel (voxel_of p) (voxel_at depth i)) 2 (get_or traced i 0)) → MarkedBy depth (since o (record { is_hit = is_hit; end = p } ∷ rs)) marked
-unfolding any_return
 line_marked depth o p rs is_hit page traced marked before can traces marks k inside =
     let v = voxel_at depth k in
     let e = is_hit && same_voxel (voxel_of p) v in

@@ -7,7 +7,6 @@ use Rattle.voxels.specs.declared.refusals.Refusal.{Refusal}
 use Rattle.voxels.specs.declared.space.Position.{Position}
 use Rattle.scans.specs.LineMarks.{MarkedBy, ReadMarks, ReadTo, Reached}
 use Rattle.scans.specs.Lines.{return_said}
-use Rattle.scans.specs.Scans.{any_return}
 use Rattle.scans.specs.Steps.{Holds, Stands, Stepped, Took, tells}
 use Rattle.scans.specs.Texts.{Progress, nothing, since, Return, advanced, line_fault, outside, read_text, return_fault}
 use Rattle.scans.specs.declared.lines.Line.{Line}
@@ -21,7 +20,6 @@ never e = absurd (cc)
 
 -- words of zeroes have the marks of no line, and of an origin alone
 origin_marked : (depth : ℕ) (o : Position) (words : List ℕ) → MarkedBy depth nothing words → MarkedBy depth (since o []) words
-unfolding any_return
 origin_marked depth o words blank = blank
 
 -- what a return line without a fault says of the map, and of those that stand already

@@ -1,5 +1,6 @@
 -- What a scan does, said of the set of its lines.
-use Rattle.std.specs.Prelude.{ℕ, Bool, false, cond, ◌&&◌, ◌||◌, List, [], ◌∷◌, Some, None, Option}
+use Rattle.std.specs.Prelude.{ℕ, Bool, cond, ◌&&◌, List, Some, None, Option}
+use Rattle.std.specs.List.{list_any}
 use Rattle.voxels.specs.Pages.{over_page}
 use Rattle.voxels.specs.Refusals.{Told, taken, refused}
 use Rattle.voxels.specs.Space.{voxel_at, voxel_count, voxel_of}
@@ -16,21 +17,16 @@ use Rattle.scans.specs.Sweeps.{wanted_by}
 use Rattle.scans.specs.declared.calls.Scanned.{Scanned}
 use Rattle.scans.specs.Texts.{Return, ScanText, read_text}
 
--- some return line has p
-unfoldable pub any_return : (Return → Bool) → List Return → Bool
-any_return p [] = false
-any_return p (r ∷ rs) = p r || any_return p rs
-
 -- an H line ends in the voxel
 abbrev pub ends_in : Voxel → Return → Bool
 ends_in v r = r.is_hit && same_voxel (voxel_of r.end) v
 
 abbrev pub is_hit_by : List Return → Voxel → Bool
-is_hit_by returns v = any_return (ends_in v) returns
+is_hit_by returns v = list_any (ends_in v) returns
 
 -- a line passes it
 abbrev pub is_passed_by : Position → List Return → Voxel → Bool
-is_passed_by origin returns v = any_return (λ r. passes origin r.end v) returns
+is_passed_by origin returns v = list_any (λ r. passes origin r.end v) returns
 
 -- a voxel is hit when an H line ends in it, and missed when a line passes it and it is not hit
 abbrev pub seen_by : Position → List Return → Voxel → Option Event

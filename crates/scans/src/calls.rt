@@ -33,7 +33,7 @@ pub fn scan<S: Store>(store: &mut S, page: &mut [u16], text: &[u8]) -> Result<Sc
     scan_over(store, guard.words, text)
 }
 
-// The scan itself, over a page that somebody else wipes.
+// The scan itself, over a page that its caller wipes. That the words behind the voxels stay is a clause: a guard over a part of the page would lose its tie to the rest (`WorkPage`).
 fn scan_over<S: Store>(store: &mut S, page: &mut [u16], text: &[u8]) -> Result<Scanned, Refusal>
     requires { voxel_count (S.shape store.old).depth ≤ length page.old }
     ensures answer { told result ≡ text_answer (S.shape store.old) (S.cell store.old) (read_text (S.shape store.old).depth text.now) }

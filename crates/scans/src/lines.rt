@@ -15,7 +15,7 @@ pub enum Line {
 
 const MOST_DIGITS: usize = 4;
 
-// What stands before the first such byte, and what behind it.
+// What stands before the first such byte, and what behind it. The library has it for text alone, and a scan is bytes.
 pub fn split_once(bytes: &[u8], byte: u8) -> Option<(&[u8], &[u8])>
     ensures { MatchOption result (All (λ b. b ≢ byte) bytes.now) (λ parts. CutAt byte bytes.now parts.0.now parts.1.now) }
 {
@@ -23,7 +23,7 @@ pub fn split_once(bytes: &[u8], byte: u8) -> Option<(&[u8], &[u8])>
     Some((&bytes[..at], &bytes[at + 1..]))
 }
 
-// What the bytes of a line say, without its line feed; none where they have not the form.
+// What the bytes of a line say, without its line feed; none where that is no line of a scan.
 pub fn line_of(bytes: &[u8]) -> Option<Line>
     ensures { said bytes.now ≡ option_map said_by result }
 {
@@ -51,7 +51,7 @@ fn position(numbers: &[u8]) -> Option<Position>
     })
 }
 
-// 0, or up to four digits that do not begin with 0.
+// 0, or up to four digits that do not begin with 0. The library's `parse` would take a sign and leading zeros too.
 fn number(digits: &[u8]) -> Option<u16>
     ensures { result ≡ number_in digits.now }
 {

@@ -6,18 +6,18 @@ ghost use Rattle.voxels.specs.Space.{voxel_count};
 use crate::lines::Line;
 use crate::reader::Reader;
 use tracing::{Ray, mark_end, trace};
-use voxels::{Position, Refusal};
+use voxels::Refusal;
 
 // Marks what a return line passes and, for a hit, where it ends.
-fn mark_return(words: &mut [u16], depth: u8, origin: Position, hit: bool, end: Position)
+fn mark_return(words: &mut [u16], depth: u8, ray: Ray, hit: bool)
     requires whole { length words.old ≡ voxel_count depth }
-    requires from { outside depth origin ≡ false }
-    requires to { outside depth end ≡ false }
-    ensures { (returns : List Return) → MarkedBy depth (since origin returns) words.old → MarkedBy depth (since origin (record { is_hit = hit; end = end } ∷ returns)) words.new }
+    requires from { outside depth ray.origin ≡ false }
+    requires to { outside depth ray.end ≡ false }
+    ensures { (returns : List Return) → MarkedBy depth (since ray.origin returns) words.old → MarkedBy depth (since ray.origin (record { is_hit = hit; end = ray.end } ∷ returns)) words.new }
 {
-    let _ = trace(words, depth, Ray { origin, end });
+    let _ = trace(words, depth, ray);
     if hit {
-        mark_end(words, depth, end);
+        mark_end(words, depth, ray.end);
     }
 }
 
@@ -35,7 +35,11 @@ pub fn mark_lines(words: &mut [u16], depth: u8, text: &[u8]) -> Result<usize, Re
             Line::Origin(_) => {}
             Line::Return { hit, end } => {
                 if let Some(since) = reader.since {
-                    mark_return(words, depth, since.origin, hit, end);
+                    let ray = Ray {
+                        origin: since.origin,
+                        end,
+                    };
+                    mark_return(words, depth, ray, hit);
                 }
             }
             Line::End => return Ok(reader.place),

@@ -3,11 +3,9 @@ ghost use Rattle.scans.specs.Lines.{said_by};
 ghost use Rattle.scans.specs.Texts.{Progress, nothing, outside};
 
 use crate::lines::{Line, line_of, split_once};
-use voxels::{Position, Reason, side};
+use voxels::{Position, Reason, TICKS, side};
 
 const MOST_RETURNS: u16 = 512;
-
-const TICKS: u16 = 64;
 
 // Where a scan stood, by its origin line, and how many return lines came since.
 #[derive(Clone, Copy)]

@@ -5,11 +5,11 @@ use Rattle.std.specs.Simd.{first_chunks}
 use Rattle.std.proofs.lemmas.List.{get_or-drop, get_or-take}
 use Rattle.std.proofs.lemmas.List.Elements.{All-from_get_or}
 use Rattle.std.proofs.lemmas.List.Folds.{list_any_at, list_any_none}
-use Rattle.std.proofs.lemmas.Bool.{and_right, both_ways, eqb-true, cases_Bool, cases_lt, cond-true, cond-false, not_from_true, not_from_false, lt-ltb, le-ltb, eq-eqb, ne_eqb}
+use Rattle.std.proofs.lemmas.Bool.{and_right, both_ways, cases_Bool, cases_lt, cond-false, cond-true, eq-eqb, eqb-true, false_from_ne_true, le-ltb, lt-ltb, ne_eqb, not_from_false, not_from_true}
 use Rattle.std.proofs.lemmas.Bool.Decides.{nat_tests}
 use Rattle.voxels.specs.Bounded.{first, some}
 use Rattle.voxels.specs.Refusals.{Told, taken, refused}
-use Rattle.voxels.proofs.Bounds.{first_at, first_none, never_true, some_fails, some_none}
+use Rattle.voxels.proofs.Bounds.{first_at, first_none, some_fails, some_none}
 use Rattle.stores.specs.Masks.{Ordered, fill_answer, in_run, least_offset, no_run, pair_count, pair_fault, pair_run, refused_for, run_end, run_fault}
 use Rattle.stores.specs.declared.mask.Run.{Run}
 
@@ -83,7 +83,7 @@ any_of_first runs n p q room same none =
     ⊎_elim
     (λ has. ⊎_elim
     (λ any. any ∙ sym has)
-    (λ fails. absurd (both_ways (some n q) (some_none n q (λ k h. never_true (q k) (λ t. both_ways (list_any p runs) fails (list_any_at p runs k no_run (omega (arith, room, h)) (same k h ∙ t))))) has))
+    (λ fails. absurd (both_ways (some n q) (some_none n q (λ k h. false_from_ne_true (q k) (λ t. both_ways (list_any p runs) fails (list_any_at p runs k no_run (omega (arith, room, h)) (same k h ∙ t))))) has))
     (cases_Bool (list_any p runs)))
     (λ lacks.
     list_any_none p runs (All-from_get_or (λ r. p r ≡ false) runs no_run (λ k h. ⊎_elim (λ below. same k below ∙ some_fails n q lacks k below) (λ beyond. none k beyond) (cases_lt k n)))

@@ -1,5 +1,6 @@
 -- Which answer a set gives, case by case.
-use Rattle.std.proofs.Common.{◌≡◌, ℕ, ◌<◌, ◌≤◌, Bool, true, false, not, ◌||◌, ltb, ◌⊎◌, refl, ap, ◌∙◌, inl, inr, ⊎_elim, arith}
+use Rattle.std.proofs.Common.{◌≡◌, ℕ, ◌<◌, ◌≤◌, Bool, true, false, not, ◌||◌, ltb, ◌⊎◌, ap, ◌∙◌, inl, inr, ⊎_elim, arith}
+use Rattle.std.proofs.Math.Bool.{or-false}
 use Rattle.std.proofs.lemmas.Bool.{cond-true, cond-false, not_from_true, not_from_false, lt-ltb, le-ltb, and_right, or_right, cases_lt}
 use Rattle.voxels.specs.Cells.{in_range, put}
 use Rattle.voxels.specs.Cubes.{blocks_needed}
@@ -9,10 +10,6 @@ use Rattle.voxels.specs.declared.cells.Cell.{Cell}
 use Rattle.stores.specs.Masks.{masked_shape}
 use Rattle.stores.specs.Sets.{is_open, set_answer}
 use Rattle.stores.specs.Shapes.{Shape}
-
-or_false : (b : Bool) → (b || false) ≡ b
-or_false true = refl
-or_false false = refl
 
 module _ (shape : Shape) (cells : ℕ → Cell) (i : ℕ) (c : Cell) where
   pub answer_not_open : is_open shape i ≡ false → set_answer shape cells i c ≡ refused 13 0
@@ -65,5 +62,5 @@ module _ (shape : Shape) (mask : ℕ → Bool) (cells : ℕ → Cell) (i : ℕ) 
   pub answer_unmasked : mask i ≡ false → set_answer (masked_shape shape mask) cells i c ≡ set_answer shape cells i c
   unfolding set_answer
   answer_unmasked e =
-      let same : (shape.closed i || mask i) ≡ shape.closed i = ap (λ b. shape.closed i || b) e ∙ or_false (shape.closed i) in
+      let same : (shape.closed i || mask i) ≡ shape.closed i = ap (λ b. shape.closed i || b) e ∙ or-false (shape.closed i) in
       rw same

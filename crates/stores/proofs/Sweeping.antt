@@ -25,17 +25,6 @@ module _ (shape : Shape) (wanted : ℕ → Option Cell) (cells now : ℕ → Cel
   abbrev set_at : Bool
   set_at = is_set shape wanted cells n
 
-  -- back over a voxel that was not set
-  pub back_over : get_or page n 0 ≡ 0 → Midway shape wanted cells now page n
-  back_over no_word =
-      let none : set_at ≡ false = ⊎_elim (λ yes'. absurd (let e = cond-true set_at (cell_word (cells n) + 1) 0 yes' in omega (arith, mid.kept n (omega arith), e, no_word))) (λ none. none) (cases_Bool set_at) in
-      record {
-        ranged = mid.ranged;
-        reached = λ i. mid.reached i ∙ swept_stays shape wanted cells n i none;
-        fitted = λ m h. mid.fitted m (omega arith);
-        kept = λ k h. mid.kept k (omega arith);
-      }
-
   -- what the kept word says of the voxel
   kept_some : 0 < get_or page n 0 → (set_at ≡ true) × (word_cell (get_or page n 0 - 1) ≡ cells n)
   kept_some some_word =
@@ -83,9 +72,6 @@ module _ (shape : Shape) (wanted : ℕ → Option Cell) (cells now : ℕ → Cel
     fitted = behind.fitted;
     kept = λ k h. sym (ap (λ ws. get_or ws k 0) is ∙ get_or_append_left front (word ∷ []) 0 k h) ∙ behind.kept k h;
   }
-
-  pub turn_over : word ≡ 0 → Midway shape wanted cells now front (length front)
-  turn_over none = shorter now (back_over shape wanted cells now page (length front) at_last (last_word ∙ none))
 
   pub turn_set : (after : ℕ → Cell) (r : Told (Unit {0})) (c : Cell) → 1 ≤ word → c ≡ word_cell (word - 1) → SetDone shape now (length front) c r after → Midway shape wanted cells after front (length front)
   turn_set after r c some_word kept done =

@@ -29,6 +29,10 @@ masked_shape shape mask = record { depth = shape.depth; closed = λ i. shape.clo
 abbrev pub Ordered : List Run → Type 0
 Ordered runs = (k : ℕ) → 1 ≤ (slice_index_or runs k no_run).length → (run_end (slice_index_or runs k no_run) ≤ 32768) × ((j : ℕ) → suc j ≡ k → (1 ≤ (slice_index_or runs j no_run).length) × (run_end (slice_index_or runs j no_run) < (slice_index_or runs k no_run).offset))
 
+-- what every mask is: sixteen runs in order, those that are not used empty and behind the others
+abbrev pub IsMask : List Run → Type 0
+IsMask runs = (length runs ≡ 16) × Ordered runs
+
 -- the run that pair p says
 abbrev pub pair_run : List ℕ → ℕ → Run
 pair_run bytes p = record { offset = slice_index bytes (4 * p) + 256 * slice_index bytes (4 * p + 1); length = slice_index bytes (4 * p + 2) + 256 * slice_index bytes (4 * p + 3) }
@@ -68,7 +72,7 @@ fill_answer bytes =
 abbrev pub closed_by_bytes : List ℕ → ℕ → Bool
 closed_by_bytes bytes i = some (pair_count bytes) (λ p. in_run (pair_run bytes p) i)
 
--- the runs of all pairs and behind them empty ones, 16 in all, or the refusal of the fill
+-- the runs of all pairs and behind them empty ones, or the refusal of the fill
 abbrev pub RunsRead : List ℕ → Result (List Run) Refusal → Type 0
-RunsRead bytes (Ok runs) = (fill_answer bytes ≡ taken tt) × (pair_count bytes ≤ length runs) × ((k : ℕ) → k < pair_count bytes → slice_index_or runs k no_run ≡ pair_run bytes k) × ((k : ℕ) → pair_count bytes ≤ k → slice_index_or runs k no_run ≡ no_run) × Ordered runs
+RunsRead bytes (Ok runs) = (fill_answer bytes ≡ taken tt) × (pair_count bytes ≤ 16) × ((k : ℕ) → k < pair_count bytes → slice_index_or runs k no_run ≡ pair_run bytes k) × ((k : ℕ) → pair_count bytes ≤ k → slice_index_or runs k no_run ≡ no_run) × IsMask runs
 RunsRead bytes (Err e) = fill_answer bytes ≡ refused (number_of e.reason) e.place

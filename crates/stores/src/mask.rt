@@ -1,6 +1,6 @@
 ghost use Rattle.std.specs.Prelude.{◌≡◌, ℕ, false, List, MatchResult};
 ghost use Rattle.std.specs.Option.{option_map};
-ghost use Rattle.stores.specs.Masks.{Ordered, RunsRead, closed_by, closed_by_bytes, fill_answer, in_run, pair_run, run_end, run_fault};
+ghost use Rattle.stores.specs.Masks.{IsMask, RunsRead, closed_by, closed_by_bytes, fill_answer, in_run, pair_run, run_end, run_fault};
 ghost use Rattle.stores.specs.declared.mask.Run.{Run};
 ghost use Rattle.voxels.specs.Refusals.{number_of, told};
 
@@ -30,7 +30,7 @@ impl Model for Mask {
 
     ghost view = { λ mask. mask.runs };
 
-    ghost invariant = { λ mask. Ordered mask.runs };
+    ghost invariant = { λ mask. IsMask mask.runs };
 
     ghost inverse = { λ runs. record { runs = runs } };
 }
@@ -86,7 +86,8 @@ impl From<[u8; 4]> for Run {
 impl Mask {
     // Closes nothing.
     pub fn empty() -> Mask
-        ensures { (i : ℕ) → closed_by result i ≡ false }
+        ensures none { (i : ℕ) → closed_by result i ≡ false }
+        ensures mask { IsMask result }
     {
         Mask {
             runs: [Run::NONE; MOST_RUNS],
@@ -103,7 +104,8 @@ impl Mask {
     }
 
     pub fn closes(&self, index: usize) -> bool
-        ensures { result ≡ closed_by self.now index }
+        ensures value { result ≡ closed_by self.now index }
+        ensures mask { IsMask self.now }
     {
         self.runs.iter().any(|run| run.holds(index))
     }
@@ -122,6 +124,7 @@ fn read_runs(bytes: &[u8]) -> Result<[Run; MOST_RUNS], Refusal>
     }
     let mut runs = [Run::NONE; MOST_RUNS];
     let mut least = 0;
+    // By number: a refusal tells it too.
     for (at, pair) in pairs.iter().enumerate() {
         let run = Run::from(*pair);
         if let Some(reason) = run.fault(least) {

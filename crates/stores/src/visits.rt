@@ -16,7 +16,7 @@ pub struct Swept {
     pub skipped: u32,
 }
 
-// What the words of a page say of voxels.
+// What the words of a page say of voxels: a trait and no closure, since a rule owes laws.
 pub trait Rule {
     ghost wanted: { ℕ → CellOf → Option CellOf };
 
@@ -25,7 +25,7 @@ pub trait Rule {
         ensures value { result ≡ wanted word cell }
         ensures range { IfSome result (λ c. in_range c ≡ true) };
 
-    // a voxel without a word
+    // a word 0 says nothing of its voxel
     ghost silent: { (cell : CellOf) → wanted 0 cell ≡ None };
 }
 

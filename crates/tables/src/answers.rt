@@ -5,7 +5,7 @@ use std::process::Abort;
 use stores::Mask;
 use voxels::Refusal;
 
-// A refusal is told by its number and place.
+// A refusal is told by its number and place, as labs know it.
 pub fn told<T>(answer: Result<T, Refusal>) -> Result<T, (u8, u32)> {
     answer.map_err(|refusal| (refusal.reason.number(), refusal.place))
 }

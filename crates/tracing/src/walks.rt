@@ -3,10 +3,7 @@ ghost use Rattle.std.specs.Prelude.{◌≡◌, ◌<◌};
 ghost use Rattle.tracing.specs.Walks.{AxisHasRoom, HasRoom, StepsOn, axis_at, crossed, crossings_left, current_voxel, leads, next_of, walk_at};
 
 use crate::Ray;
-use voxels::{Axis, Voxel};
-
-// Ticks along the edge of a voxel.
-const TICKS: u16 = 64;
+use voxels::{Axis, TICKS, Voxel};
 
 // A walk along one axis: the coordinate that it has come to, the crossings that are left, and the next of them, which comes at the fraction reach / span of the line.
 #[derive(Clone, Copy)]

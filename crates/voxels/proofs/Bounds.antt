@@ -1,15 +1,7 @@
 -- Laws of the quantifiers and sums over the numbers below a bound.
 use Rattle.std.proofs.Common.{◌≡◌, ℕ, zero, suc, ◌+◌, ◌*◌, ◌<◌, ◌≤◌, Bool, true, false, cond, Some, None, Option, sym, refl, ap, ◌∙◌, ap₂, ⊎_elim, le_refl, mul-add, add-one, arith}
-use Rattle.std.proofs.lemmas.Bool.{and_from, and_left, and_parts, and_right, both_ways, cases_Bool, cases_eq, cond-false, cond-true, or_from, or_left, or_right}
+use Rattle.std.proofs.lemmas.Bool.{and_from, and_left, and_parts, and_right, both_ways, cases_eq, cond-false, cond-true, false_from_ne_true, or_from, or_left, or_right}
 use Rattle.voxels.specs.Bounded.{some, all, sum, count, first}
-
--- a test that cannot hold fails
-pub never_true : (b : Bool) → (b ≡ true → ⊥) → b ≡ false
-never_true b no_way = ⊎_elim (λ holds. absurd (no_way holds)) (λ fails. fails) (cases_Bool b)
-
-pub sum_more : (n : ℕ) (f : ℕ → ℕ) → sum (suc n) f ≡ f n + sum n f
-unfolding sum
-sum_more n f = refl
 
 pub sum_same : (n : ℕ) (f g : ℕ → ℕ) → ((k : ℕ) → k < n → f k ≡ g k) → sum n f ≡ sum n g
 unfolding sum
@@ -69,7 +61,7 @@ count_has (suc n) p k h e =
 
 -- none is counted where the count is 0
 pub count_zero : (n : ℕ) (p : ℕ → Bool) → count n p ≡ 0 → (k : ℕ) → k < n → p k ≡ false
-count_zero n p none k h = never_true (p k) (λ has. omega (arith, count_has n p k h has, none))
+count_zero n p none k h = false_from_ne_true (p k) (λ has. omega (arith, count_has n p k h has, none))
 
 pub all_same : (n : ℕ) (p q : ℕ → Bool) → ((k : ℕ) → k < n → p k ≡ q k) → all n p ≡ all n q
 unfolding all
@@ -111,7 +103,7 @@ some_has (suc n) p k h e =
     (cases_eq k n)
 
 pub some_fails : (n : ℕ) (p : ℕ → Bool) → some n p ≡ false → (k : ℕ) → k < n → p k ≡ false
-some_fails n p none k h = never_true (p k) (λ has. both_ways _ none (some_has n p k h has))
+some_fails n p none k h = false_from_ne_true (p k) (λ has. both_ways _ none (some_has n p k h has))
 
 pub first_none : (n : ℕ) (p : ℕ → Bool) → ((k : ℕ) → k < n → p k ≡ false) → first n p ≡ None
 unfolding first

@@ -1,6 +1,7 @@
 -- The index and the coordinates, digit by digit from the lowest, and that they undo one another.
 use Rattle.std.proofs.Common.{◌≡◌, ℕ, zero, suc, ◌+◌, ◌*◌, ◌/◌, ◌%◌, ◌^◌, ◌<◌, ◌≤◌, Bool, true, false, cond, ltb, leb, Some, None, Option, SomeIff, unwrap_or, ⊎_elim, sym, subst, refl, ap, ◌∙◌, mul_assoc, mul-le-mul_left, pow-add, pow-suc, add-one, arith, lit<, pow_pos}
 use native.Mathlib.Nat.{pow-succ', div-div-eq-div-mul, pow-le-pow_right, div-eq_of_lt}
+use Rattle.std.proofs.lemmas.Grind.{pow_more}
 use Rattle.std.proofs.lemmas.Nat.{mul-pow}
 use Rattle.std.proofs.lemmas.Bool.{cases_lt, and_parts, and_from, leb-true, lt-ltb, cond-true, cond-false}
 use Rattle.voxels.specs.Bounded.{sum}
@@ -103,9 +104,6 @@ index_more d v = rw add-one (omega arith)
 pub coordinate_more : (axis d i : ℕ) → coordinate axis (d + 1) i ≡ coordinate axis d i + 2 ^ d * bit axis (i / 8 ^ d % 8)
 unfolding sum
 coordinate_more axis d i = rw add-one (omega arith)
-
-pub pow_more : (b d : ℕ) → b ^ (d + 1) ≡ b ^ d * b
-pow_more b d = rw add-one (pow-suc b d)
 
 pub quotient_more : (i d : ℕ) → i / 8 ^ (d + 1) ≡ i / 8 ^ d / 8
 quotient_more i d = ap (λ m. i / m) (pow_more 8 d) ∙ sym (div-div-eq-div-mul i (8 ^ d) 8)

@@ -11,4 +11,4 @@ pub use cells::{Cell, Event, NoState, State};
 pub use cubes::{cube_at, most_blocks};
 pub use pages::{WorkPage, check_page, wipe_voxels};
 pub use refusals::{Reason, Refusal};
-pub use space::{Axis, Position, Voxel, side, voxel_count};
+pub use space::{Axis, Position, TICKS, Voxel, side, voxel_count};

@@ -1,7 +1,7 @@
 ghost use Rattle.std.specs.Prelude.{◌≡◌, ◌<◌, ◌≤◌, IfSome, Some};
 ghost use Rattle.voxels.specs.Space.{axis_number, coordinate, index_in, octant, side, voxel_count, voxel_in, voxel_of};
 
-// A point of the map's space, in ticks from its corner.
+// A point of the map's space, in ticks from its corner. Its fields are those of a voxel, whose unit is another, so that neither is taken for the other.
 #[derive(Clone, Copy)]
 pub struct Position {
     pub x: u16,
@@ -33,7 +33,8 @@ impl Axis {
     }
 }
 
-const TICKS: u16 = 64;
+// Ticks along the edge of a voxel.
+pub const TICKS: u16 = 64;
 
 impl Position {
     // The voxel that the position lies in.
@@ -49,7 +50,7 @@ impl Position {
 }
 
 impl Voxel {
-    // The voxel's index in a map of that depth, where it lies in one.
+    // The voxel's index in a map of that depth, where it lies in one. The digits are summed from the lowest one up, as the index is defined.
     pub fn index(self, depth: u8) -> Option<usize>
         ensures value { result ≡ index_in depth self }
         ensures back { IfSome result (λ i. voxel_in depth i ≡ Some self) }

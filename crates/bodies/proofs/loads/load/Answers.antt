@@ -1,7 +1,6 @@
-use Rattle.std.proofs.Common.{length, sym, refl, ap, ◌∙◌, subst, arith}
+use Rattle.std.proofs.Common.{length, sym, refl, ◌∙◌, subst, arith}
 use Rattle.std.proofs.lemmas.Result.{err_from_is_err_and}
-use Rattle.voxels.specs.Pages.{over_page}
-use Rattle.voxels.specs.Refusals.{Told, number_of, taken}
+use Rattle.voxels.specs.Refusals.{Told, number_of}
 use Rattle.voxels.proofs.WorkPages.{guard_left, over_enough, page_refused, page_taken}
 use Rattle.stores.specs.declared.visits.Swept.{Swept}
 use Rattle.bodies.specs.Loads.{MalformedExactly, body_answer}
@@ -18,7 +17,7 @@ returns-in_err-check_page g c =
     let body = c.args.body.now in
     let refusal = c.in_err-check_page.field-0.0 in
     let bytes = bytes_all body (λ i. omega (arith, c.type_inv.body i)) in
-    let left = page_refused shape.depth page (number_of refusal.reason) refusal.place (body_answer shape (s.cell store) body) (c.in_err-check_page.ensures ∙ ap (λ d. over_page d (length page) (taken tt)) c.depth-depth.ensures) in
+    let left = page_refused shape.depth page (number_of refusal.reason) refusal.place (body_answer shape (s.cell store) body) c.depth-depth.ensures c.in_err-check_page.ensures in
     let p = err_from_is_err_and c.from_residual.result c.from_residual.ensures.1 in
     let P : Told Swept → Type 0 = MalformedExactly shape.depth (s.cell store) (length page) body in
     rw (p.1, p.2) record {
@@ -32,7 +31,7 @@ returns-in_err-check_page g c =
 
 pub load_over-requires : goal.load_over-requires
 load_over-requires g c =
-    let enough = page_taken (g.S.Store.shape c.args.store.now).depth (length c.args.page.now) (c.in_ok-check_page.ensures ∙ ap (λ d. over_page d (length c.args.page.now) (taken tt)) c.depth-depth.ensures) in
+    let enough = page_taken (g.S.Store.shape c.args.store.now).depth (length c.args.page.now) c.depth-depth.ensures c.in_ok-check_page.ensures in
     record { some = enough.0; long = enough.1 }
 
 pub returns : goal.returns
@@ -43,7 +42,7 @@ returns g c =
     let page = c.args.page.now in
     let body = c.args.body.now in
     let done = c.load_over.ensures in
-    let enough = page_taken shape.depth (length page) (c.in_ok-check_page.ensures ∙ ap (λ d. over_page d (length page) (taken tt)) c.depth-depth.ensures) in
+    let enough = page_taken shape.depth (length page) c.depth-depth.ensures c.in_ok-check_page.ensures in
     let bytes = bytes_all body (λ i. omega (arith, c.type_inv.body i)) in
     let answer = done.answer ∙ sym (over_enough shape.depth (length page) (body_answer shape (s.cell store) body) enough.0 enough.1) in
     let P : Told Swept → Type 0 = MalformedExactly shape.depth (s.cell store) (length page) body in

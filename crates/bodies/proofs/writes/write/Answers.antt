@@ -1,7 +1,6 @@
-use Rattle.std.proofs.Common.{length, sym, refl, ap, ◌∙◌}
+use Rattle.std.proofs.Common.{length, sym, refl, ◌∙◌}
 use Rattle.std.proofs.lemmas.Result.{err_from_is_err_and}
-use Rattle.voxels.specs.Pages.{over_page}
-use Rattle.voxels.specs.Refusals.{number_of, taken}
+use Rattle.voxels.specs.Refusals.{number_of}
 use Rattle.voxels.proofs.WorkPages.{guard_left, over_enough, page_refused, page_taken}
 use Rattle.bodies.specs.Writes.{room_answer}
 use Rattle.bodies.proofs.Written.{only_states, reads_back}
@@ -15,7 +14,7 @@ returns-in_err-check_page g c =
     let page = c.args.page.now in
     let refusal = c.in_err-check_page.field-0.0 in
     let p = err_from_is_err_and c.from_residual.result c.from_residual.ensures.1 in
-    let left = page_refused depth page (number_of refusal.reason) refusal.place (room_answer depth (s.cell store) (length c.args.output.now)) (c.in_err-check_page.ensures ∙ ap (λ d. over_page d (length page) (taken tt)) c.depth-depth.ensures) in
+    let left = page_refused depth page (number_of refusal.reason) refusal.place (room_answer depth (s.cell store) (length c.args.output.now)) c.depth-depth.ensures c.in_err-check_page.ensures in
     rw (p.1, p.2) record {
       answer = left.0;
       bytes = refl {a = c.args.output.now};
@@ -26,7 +25,7 @@ returns-in_err-check_page g c =
 
 pub write_over-requires : goal.write_over-requires
 write_over-requires g c =
-    let enough = page_taken (g.S.Store.shape c.args.store.now).depth (length c.args.page.now) (c.in_ok-check_page.ensures ∙ ap (λ d. over_page d (length c.args.page.now) (taken tt)) c.depth-depth.ensures) in
+    let enough = page_taken (g.S.Store.shape c.args.store.now).depth (length c.args.page.now) c.depth-depth.ensures c.in_ok-check_page.ensures in
     record { some = enough.0; long = enough.1 }
 
 pub returns : goal.returns
@@ -36,7 +35,7 @@ returns g c =
     let depth = (s.shape store).depth in
     let page = c.args.page.now in
     let done = c.write_over.ensures in
-    let enough = page_taken depth (length page) (c.in_ok-check_page.ensures ∙ ap (λ d. over_page d (length page) (taken tt)) c.depth-depth.ensures) in
+    let enough = page_taken depth (length page) c.depth-depth.ensures c.in_ok-check_page.ensures in
     record {
       answer = done.answer ∙ sym (over_enough depth (length page) (room_answer depth (s.cell store) (length c.args.output.now)) enough.0 enough.1);
       bytes = done.bytes;

@@ -1,7 +1,7 @@
 use Rattle.std.proofs.Common.{◌≡◌, ◌≤◌, length, Err, sym, ap, ◌∙◌}
 use Rattle.std.proofs.lemmas.Result.{err_from_is_err_and}
 use Rattle.voxels.specs.Pages.{guarded, over_page, wiped}
-use Rattle.voxels.specs.Refusals.{refused, taken, told, number_of}
+use Rattle.voxels.specs.Refusals.{refused, told, number_of}
 use Rattle.voxels.specs.Space.{voxel_count}
 use Rattle.voxels.proofs.WorkPages.{guard_left, over_enough, page_refused, page_taken}
 use Rattle.scans.specs.Scans.{text_answer}
@@ -20,7 +20,7 @@ refused_page g c =
     let shape = g.S.Store.shape c.args.store.now in
     let refusal = c.in_err-check_page.field-0.0 in
     page_refused shape.depth page (number_of refusal.reason) refusal.place _
-    (c.in_err-check_page.ensures ∙ ap (λ d. over_page d (length page) (taken tt)) c.depth-depth.ensures)
+    c.depth-depth.ensures c.in_err-check_page.ensures
 
 pub returns-in_err-check_page-clause-answer : goal.returns-in_err-check_page-clause-answer
 returns-in_err-check_page-clause-answer g c =
@@ -35,7 +35,7 @@ returns-in_err-check_page-clause-order g c = order_free (g.S.Store.shape c.args.
 
 -- the page was taken
 taken_page : (g : Over) (c : In_ok-check_page g) → let depth = (g.S.Store.shape c.args.store.now).depth in (1 ≤ depth) × (voxel_count depth ≤ length c.args.page.now)
-taken_page g c = page_taken _ _ (c.in_ok-check_page.ensures ∙ ap (λ d. over_page d (length c.args.page.now) (taken tt)) c.depth-depth.ensures)
+taken_page g c = page_taken _ _ c.depth-depth.ensures c.in_ok-check_page.ensures
 
 pub scan_over-requires : goal.scan_over-requires
 scan_over-requires g c = (taken_page g (goal.at.scan_over-requires g c).In_ok-check_page).1

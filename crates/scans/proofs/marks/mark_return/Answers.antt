@@ -7,8 +7,8 @@ use Rattle.scans.proofs.marks.mark_return.Goals as goal
 pub returns-then-hit : goal.returns-then-hit
 returns-then-hit c returns before =
     let depth = c.args.depth in
-    let o = c.args.origin in
-    let p = c.args.end in
+    let o = c.args.ray.origin in
+    let p = c.args.ray.end in
     let words = c.args.words.now in
     let traced = c.trace.new.page in
     line_marked depth o p returns c.args.hit words traced c.mark_end.new.page before (can_trace depth o p words (omega (arith, c.requires.whole)) c.requires.from c.requires.to) c.trace.ensures.marks
@@ -17,8 +17,8 @@ returns-then-hit c returns before =
 pub returns-else-hit : goal.returns-else-hit
 returns-else-hit c returns before =
     let depth = c.args.depth in
-    let o = c.args.origin in
-    let p = c.args.end in
+    let o = c.args.ray.origin in
+    let p = c.args.ray.end in
     let words = c.args.words.now in
     let traced = c.trace.new.page in
     line_marked depth o p returns c.args.hit words traced traced before (can_trace depth o p words (omega (arith, c.requires.whole)) c.requires.from c.requires.to) c.trace.ensures.marks

@@ -65,4 +65,4 @@ returns c =
     let none : (k : ℕ) → k < n → pair_fault bytes k ≡ None = λ k h. c.loop-at.invariant.4 k (omega (arith, pairs, c.loop-at-test.false)) in
     let read : (k : ℕ) → k < n → get_or c.loop-at.runs k no_run ≡ pair_run bytes k = λ k h. c.loop-at.invariant.2 k (omega (arith, pairs, c.loop-at-test.false)) in
     let empty : (k : ℕ) → n ≤ k → get_or c.loop-at.runs k no_run ≡ no_run = λ k h. c.loop-at.invariant.3 k (omega (arith, pairs, c.loop-at.auto.at-end, h)) in
-    (fill_right bytes (no_rest _ _ c.as_chunks.ensures.back_len c.if-not-is_empty.ensures) few none, omega (arith, few, c.loop-at.invariant.0), read, empty, in_order bytes c.loop-at.runs n read empty none)
+    (fill_right bytes (no_rest _ _ c.as_chunks.ensures.back_len c.if-not-is_empty.ensures) few none, few, read, empty, (c.loop-at.invariant.0, in_order bytes c.loop-at.runs n read empty none))

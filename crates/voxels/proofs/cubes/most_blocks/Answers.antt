@@ -5,5 +5,5 @@ use Rattle.voxels.proofs.cubes.most_blocks.Goals as goal
 pub overflow_cast-result : goal.overflow_cast-result
 overflow_cast-result c = omega (arith, count_small c.args.depth)
 
-pub returns : goal.returns
-returns c = record { value = cc; enough = within_most c.args.depth }
+pub returns-clause-enough : goal.returns-clause-enough
+returns-clause-enough c = within_most c.args.depth

@@ -1,7 +1,8 @@
 use Rattle.std.proofs.Common.{◌*◌, ◌%◌, ◌≤◌, refl, mul-le-mul_left, arith, lit<}
+use Rattle.std.proofs.lemmas.Grind.{pow_more}
 use Rattle.voxels.specs.Bounded.{sum}
 use Rattle.voxels.specs.Space.{axis_number, bit}
-use Rattle.voxels.proofs.Indices.{pow_small, pow_more, quotient_more, coordinate_more, coordinate_below}
+use Rattle.voxels.proofs.Indices.{pow_small, quotient_more, coordinate_more, coordinate_below}
 use Rattle.voxels.proofs.space.coordinate.Goals as goal
 
 pub loop-level-init : goal.loop-level-init

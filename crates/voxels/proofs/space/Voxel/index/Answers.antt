@@ -1,8 +1,9 @@
 use Rattle.std.proofs.Common.{◌≡◌, ◌*◌, ◌^◌, ◌<◌, ◌≤◌, refl, arith, lit<}
 use Rattle.std.proofs.lemmas.Nat.{mul-le}
+use Rattle.std.proofs.lemmas.Grind.{pow_more}
 use Rattle.voxels.specs.Bounded.{sum}
 use Rattle.voxels.specs.Space.{side}
-use Rattle.voxels.proofs.Indices.{pow_small, pow_more, index_more, index_below, octant_le, side_above, index_back}
+use Rattle.voxels.proofs.Indices.{pow_small, index_more, index_below, octant_le, side_above, index_back}
 use Rattle.voxels.proofs.space.Voxel.index.Goals as goal
 
 pub loop-level-init : goal.loop-level-init
@@ -38,9 +39,9 @@ loop-level-preserved c =
     let more = index_more level c.args.self in
     (omega (arith, pow_more 8 level), cc, omega arith)
 
-pub returns : goal.returns
-returns c =
+pub returns-clause-back : goal.returns-clause-back
+returns-clause-back c =
     let v = c.args.self in
     let back = index_back c.args.depth v (omega arith) (omega arith) (omega arith) in
     let whole : c.loop-level.level ≡ c.args.depth = omega arith in
-    record { value = cc; back = cc }
+    cc
