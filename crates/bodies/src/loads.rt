@@ -47,7 +47,7 @@ fn any_known<S: Store>(store: &S) -> bool
     (0..voxel_count(store.depth())).any(|index| store.read(index) != Cell::Unknown)
 }
 
-// What a load makes of a free voxel.
+// What a load makes of a free voxel. That no cell has a lower number is another rule, and so for occupied ones.
 const FREE: i16 = -200;
 
 // What a load makes of an occupied voxel.

@@ -18,7 +18,7 @@ pub struct Grid<'a> {
 }
 
 impl<'a> Grid<'a> {
-    // An empty grid of that depth. A depth outside 1 to 5 or too few words give one of depth 0, which leaves the memory.
+    // An empty grid of that depth. A depth outside 1 to 5 or too few words give one of depth 0, which leaves the memory; no `Option`, since a unit without a map still answers every call.
     pub fn new(words: &'a mut [u16], depth: u8) -> Grid<'a>
         ensures depth { result.depth ≡ grid_depth depth (length words.old) }
         ensures memory { result.words.now ≡ wiped (guarded depth words.old) words.old }

@@ -100,7 +100,7 @@ fn take_back<S: Store>(store: &mut S, words: &[u16])
     }
 }
 
-// Gives every open voxel the cell that its word says, in rising index, and skips closed ones. A refused set refuses the sweep, and all cells go back. Voxels that the page has no word for are left. The words of the others are used up.
+// Gives every open voxel the cell that its word says, in rising index, and skips closed ones. A refused set refuses the sweep, and all cells go back. Voxels that the page has no word for are left. The words of the others are used up. That those behind the voxels stay is a clause: a guard over the others alone would lose its tie to the page (`WorkPage`).
 pub fn sweep<S: Store, R: Rule>(store: &mut S, page: &mut [u16]) -> Result<Swept, Refusal>
     ensures answer { told result ≡ sweep_answer (S.shape store.old) (wanted_by R.wanted page.old (S.cell store.old)) (S.cell store.old) }
     ensures cells { (i : ℕ) → S.cell store.new i ≡ swept_cells (S.shape store.old) (wanted_by R.wanted page.old (S.cell store.old)) (S.cell store.old) (told result) i }
