@@ -15,7 +15,7 @@ pub enum Line {
 
 const MOST_DIGITS: usize = 4;
 
-// What stands before the first such byte, and what behind it. The library has it for text alone, and a scan is bytes.
+// What stands before the first such byte, and what behind it. The standard library has it for text alone. The crate `bstr` has it for bytes, but cut at a string, and its contract speaks of that string's matches: more to read, and to prove, than a byte that is found.
 pub fn split_once(bytes: &[u8], byte: u8) -> Option<(&[u8], &[u8])>
     ensures { MatchOption result (All (λ b. b ≢ byte) bytes.now) (λ parts. CutAt byte bytes.now parts.0.now parts.1.now) }
 {
