@@ -19,3 +19,4 @@ mod Outputs
 mod PairCodes
 mod Ranges
 mod WriteCalls
+pub mod Placing

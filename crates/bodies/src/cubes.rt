@@ -30,7 +30,7 @@ impl Cube {
     pub fn size(self) -> usize
         ensures { result ≡ 8 ^ self.level }
     {
-        8usize.pow(u32::from(self.level))
+        1 << (3 * self.level)
     }
 
     // The cube of a child, from 0 to 7. Children are numbers and no enum: they are digits of an index.

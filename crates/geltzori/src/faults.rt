@@ -4,7 +4,7 @@ use std::io;
 use thiserror::Error;
 
 // What is wrong with a line.
-#[derive(Debug, Drop, Error)]
+#[derive(Clone, Copy, Debug, Error)]
 pub enum Flaw {
     #[error("cannot read")]
     Unreadable,

@@ -1,5 +1,6 @@
 // Bytes in base 16, two digits to a byte.
-ghost use Rattle.std.specs.Prelude.{◌≡◌};
+ghost use Rattle.std.specs.Prelude.{◌≡◌, ◌<◌, Some};
+ghost use Rattle.std.specs.Char.{digit_char};
 ghost use Rattle.std.specs.Fmt.{WritesOnOk};
 ghost use Rattle.geltzori.specs.Words.{ReadsBack, digit_of, hex_of, pair_of};
 
@@ -39,13 +40,26 @@ fn hex_digit(digit: u8) -> Option<u8>
     char::from(digit).to_digit(16).map(|value| value as u8)
 }
 
-// Writes bytes in lower case digits, straight to the output: no text of them is kept.
+// Writes bytes in lower case digits, straight to the output: no text of them is kept, and none of the padding that `{:02x}` goes through for each byte.
 pub fn write_hex<W: fmt::Write>(bytes: &[u8], f: &mut fmt::Formatter<W>) -> fmt::Result
     ensures written { WritesOnOk W.write_str_gives f.old result (hex_of bytes.now) f.new }
     ensures back { ReadsBack }
 {
     for byte in bytes {
-        write!(f, "{byte:02x}")?;
+        f.write_char(digit_of(*byte / 16))?;
+        f.write_char(digit_of(*byte % 16))?;
     }
     Ok(())
+}
+
+fn digit_of(value: u8) -> char
+    requires { value < 16 }
+    ensures digit { result ≡ digit_char value }
+    ensures back { digit_of result ≡ Some value }
+{
+    if value < 10 {
+        (b'0' + value) as char
+    } else {
+        (b'a' + value - 10) as char
+    }
 }

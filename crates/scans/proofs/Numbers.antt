@@ -1,11 +1,26 @@
--- Positions, by the pieces of their bytes.
-use Rattle.std.proofs.Common.{◌≡◌, ◌≢◌, ℕ, Bool, true, false, cond, ◌&&◌, List, [], ◌∷◌, ◌++◌, length, Some, None, Option, sym, refl, ap, ◌∙◌, ⊎_elim, append_assoc, append-nil, arith}
+-- Numbers and positions, by their digits and pieces.
+use Rattle.std.proofs.Common.{◌≡◌, ◌≢◌, ℕ, ◌<◌, ◌≤◌, Bool, true, false, cond, not, ◌&&◌, ◌||◌, eqb, leb, List, [], ◌∷◌, ◌++◌, length, get_or, Some, None, Option, sym, refl, ap, ◌∙◌, ⊎_elim, append_assoc, append-nil, arith}
 use Rattle.std.specs.List.{All}
-use Rattle.std.proofs.lemmas.Bool.{and_left, and_right, cases_eq, cond-false, ne_eqb}
+use Rattle.std.proofs.lemmas.Bool.{and_left, and_right, cases_eq, cond-false, eq-eqb, le-leb, ne_eqb, not_from_false, or_left, or_right}
 use Rattle.voxels.specs.declared.space.Position.{Position}
 use Rattle.scans.specs.Lines.{CutAt, number_in}
 use Rattle.scans.specs.Texts.{all_digits, decimal, is_digit, is_number, pieces_from, position_of}
 use Rattle.scans.proofs.Pieces.{first_piece, pieces_cut, pieces_end, pieces_none, pieces_past}
+
+both_true : (p q r : Bool) → q ≡ true → r ≡ true → ((p && q) && r) ≡ p
+both_true true q r e f = rw (e, f)
+both_true false q r e f = refl
+
+-- of one to four bytes that do not begin with a 0 in front of others only the digits are left to ask
+pub is_number_lem : (digits : List ℕ) → (length digits ≡ 0 → ⊥) → length digits ≤ 4 → (1 < length digits → get_or digits 0 0 ≡ 48 → ⊥) → is_number digits ≡ all_digits digits
+is_number_lem [] some few lead = absurd (some refl)
+is_number_lem (c ∷ cs) some few lead =
+    both_true (all_digits (c ∷ cs)) (leb (length cs) 3) (not (eqb c 48) || eqb (length cs) 0)
+    (le-leb (length cs) 3 (omega arith))
+    (⊎_elim
+    (λ none. or_right (not (eqb c 48)) (eqb (length cs) 0) (eq-eqb (length cs) 0 none))
+    (λ more. or_left (not (eqb c 48)) (eqb (length cs) 0) (not_from_false (eqb c 48) (ne_eqb c 48 (λ zero. lead (omega (arith, more)) zero))))
+    (cases_eq (length cs) 0))
 
 -- three numbers, where each is one
 abbrev pub together : Option ℕ → Option ℕ → Option ℕ → Option Position

@@ -98,7 +98,10 @@ impl Mask {
     pub fn fill(&mut self, bytes: &[u8]) -> Result<(), Refusal>
         ensures tells { told result ≡ fill_answer bytes.now }
         ensures leaves { MatchResult result (λ _. (i : ℕ) → closed_by self.new i ≡ closed_by_bytes bytes.now i) (λ _. self.new ≡ self.old) }
+        ensures mask { IsMask self.new }
     {
+        // A mask as it comes is one: so is what a refusal leaves.
+        let _ = &self.runs;
         self.runs = read_runs(bytes)?;
         Ok(())
     }
@@ -107,7 +110,16 @@ impl Mask {
         ensures value { result ≡ closed_by self.now index }
         ensures mask { IsMask self.now }
     {
-        self.runs.iter().any(|run| run.holds(index))
+        // They are in order: the first that ends past the index decides, and behind the first empty one all are empty.
+        for run in &self.runs {
+            if run.length == 0 {
+                return false;
+            }
+            if index < run.end() as usize {
+                return run.holds(index);
+            }
+        }
+        false
     }
 }
 

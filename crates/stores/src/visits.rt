@@ -75,6 +75,10 @@ fn visit_voxel<S: Store, R: Rule>(store: &mut S, index: usize, word: u16) -> Res
     ensures done { VisitDone (S.shape store.old) (S.cell store.old) (S.cell store.new) index (R.wanted word (S.cell store.old index)) result }
     ensures shape { S.shape store.new ≡ S.shape store.old }
 {
+    // Says nothing by every rule: the store need not be asked.
+    if word == 0 {
+        return Ok(Visit::Nothing);
+    }
     let old = store.read(index);
     let Some(cell) = R::wanted(word, old) else {
         return Ok(Visit::Nothing);

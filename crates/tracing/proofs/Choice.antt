@@ -15,7 +15,7 @@ number Y = 1
 number Z = 2
 
 module _ (o p : Position) where
-  crossed_is : (a n : ℕ) → n < crossings o p a → crossed (axis_at o p a n) ≡ axis_at o p a (n + 1)
+  pub crossed_is : (a n : ℕ) → n < crossings o p a → crossed (axis_at o p a n) ≡ axis_at o p a (n + 1)
   crossed_is a n h = grind (arith, nat_tests, reach_more o p a n h)
 
   pub crossed_on_lem : (n : ℕ → ℕ) (d : Axis) → n (number d) < crossings o p (number d) → crossed_on (walk_at o p n) d ≡ walk_at o p (bump (number d) n)

@@ -29,7 +29,7 @@ abbrev pub bump : ℕ → (ℕ → ℕ) → ℕ → ℕ
 bump s n a = cond (eqb a s) (n a + 1) (n a)
 
 module _ (o p : Position) where
-  reach_is : (a j : ℕ) → j ≤ crossings o p a → reach o p a j ≡ reach o p a 0 + 64 * j
+  pub reach_is : (a j : ℕ) → j ≤ crossings o p a → reach o p a j ≡ reach o p a 0 + 64 * j
   reach_is a j h = grind (arith, nat_tests)
 
   pub reach_more : (a j : ℕ) → j < crossings o p a → reach o p a (j + 1) ≡ reach o p a j + 64

@@ -40,14 +40,14 @@ module _ (o p : Position) where
   left_all n whole v = some_same 3 (λ a. some (n a) (λ j. same_voxel (leaves o p a j) v)) (λ a. some (crossings o p a) (λ j. same_voxel (leaves o p a j) v)) (λ a h. ap (λ m. some m (λ j. same_voxel (leaves o p a j) v)) (whole a h))
 
   -- the crossing that comes next leaves the voxel that the walk is in
-  leaves_next : (n : ℕ → ℕ) (s : ℕ) → Progress o p n → First o p n s → leaves o p s (n s) ≡ current_voxel (walk_at o p n)
+  pub leaves_next : (n : ℕ → ℕ) (s : ℕ) → Progress o p n → First o p n s → leaves o p s (n s) ≡ current_voxel (walk_at o p n)
   leaves_next n s progress first =
       let x = earlier_is o p n s progress first 0 (lit< tt) in
       let y = earlier_is o p n s progress first 1 (lit< tt) in
       let z = earlier_is o p n s progress first 2 (lit< tt) in
       cc
 
-  left_more : (n : ℕ → ℕ) (s : ℕ) → Progress o p n → First o p n s → (v : Voxel) → left_by (bump s n) v ≡ (same_voxel (current_voxel (walk_at o p n)) v || left_by n v)
+  pub left_more : (n : ℕ → ℕ) (s : ℕ) → Progress o p n → First o p n s → (v : Voxel) → left_by (bump s n) v ≡ (same_voxel (current_voxel (walk_at o p n)) v || left_by n v)
   unfolding left_by some
   left_more n s progress first v = some_bump s (λ a. leaving a (n a)) (λ a. leaving a (bump s n a)) (same_voxel (current_voxel (walk_at o p n)) v) first.axis others last
     where

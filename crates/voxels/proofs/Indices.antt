@@ -119,7 +119,7 @@ pub side_cubed : (d : ℕ) → side d * side d * side d ≡ voxel_count d
 side_cubed d = cubed (is_depth d) d
 
 -- three bits for each level
-bits_of : (level : ℕ) → 2 ^ (3 * level) ≡ 8 ^ level
+pub bits_of : (level : ℕ) → 2 ^ (3 * level) ≡ 8 ^ level
 bits_of level =
     let thrice : 3 * level ≡ level + level + level = omega arith in
     ap (λ n. 2 ^ n) thrice ∙ pow-add 2 (level + level) level ∙ ap (λ m. m * 2 ^ level) (pow-add 2 level level) ∙ eight level

@@ -1,11 +1,22 @@
 -- What an update gives is in the range, and a cell in the range is kept by its word.
-use Rattle.std.proofs.Common.{◌≡◌, ℕ, suc, ◌+◌, ◌-◌, ◌≤◌, true, ◌&&◌, ltb, leb, pos, negsuc, refl, ap, ◌∙◌, arith}
+use Rattle.std.proofs.Common.{◌≡◌, ℕ, suc, ◌+◌, ◌-◌, ◌≤◌, true, ◌&&◌, ltb, leb, ℤ, pos, negsuc, ◌+ℤ◌, refl, ap, ◌∙◌, arith}
 use lib.IntN.{sub_ℕ}
 use lib.Signed.{le_z}
-use Rattle.std.proofs.lemmas.Bool.{and_from, and_parts, cond-false, cond-true, le-leb, le-ltb, leb-true, lt-ltb}
-use Rattle.voxels.specs.Cells.{cell_word, highest, in_range, lowest, word_cell}
+use Rattle.std.proofs.lemmas.Bool.{and_from, and_parts, cond_both, cond-false, cond-true, le-leb, le-ltb, leb-true, lt-ltb, ltb-false}
+use Rattle.voxels.specs.Cells.{cell_word, change, clamped, highest, in_range, log_odds, lowest, updated, word_cell}
 use Rattle.voxels.specs.declared.cells.Cell.{Cell}
 use Rattle.voxels.specs.declared.cells.Cell.TheVariants.{Known, Unknown}
+use Rattle.voxels.specs.declared.cells.Event.{Event}
+
+clamped_ranged : (z : ℤ) → in_range (Known (clamped z)) ≡ true
+clamped_ranged (pos n) =
+    cond_both (ltb 350 n) highest (pos n) (λ v. in_range (Known v) ≡ true) (λ past. refl) (λ below. and_from _ _ refl (le-leb n 350 (ltb-false 350 n below)))
+clamped_ranged (negsuc n) =
+    cond_both (ltb 199 n) lowest (negsuc n) (λ v. in_range (Known v) ≡ true) (λ past. refl) (λ above. and_from _ _ (le-leb n 199 (ltb-false 199 n above)) refl)
+
+-- whatever number the cell had
+pub updated_ranged : (c : Cell) (e : Event) → in_range (updated c e) ≡ true
+updated_ranged c e = clamped_ranged (log_odds c +ℤ change e)
 
 between : (w : ℕ) → 1 ≤ w → w ≤ 551 → (leb 1 w && leb w 551) ≡ true
 between w low high = and_from _ _ (le-leb 1 w low) (le-leb w 551 high)

@@ -1,6 +1,6 @@
 -- A work page under its guard.
 use Rattle.std.proofs.Common.{◌≡◌, ℕ, ◌+◌, ◌-◌, ◌<◌, ◌≤◌, cond, eqb, ltb, leb, ◌⊎◌, List, ◌++◌, length, get_or, drop, replicate, sym, ap, ◌∙◌, ap₂, inl, inr, ⊎_elim, arith}
-use Rattle.std.proofs.lemmas.List.{ext_get_or, get_or-drop, length-drop}
+use Rattle.std.proofs.lemmas.List.{ext_get_or, get_or_append_left, get_or-append_right, get_or-drop, get_or-replicate, length-drop, length-replicate}
 use Rattle.std.proofs.lemmas.Bool.{cases_eq, cases_lt, cond-false, cond-true, eq-eqb, le-leb, le-ltb, lt-leb, lt-ltb, ne_eqb}
 use Rattle.voxels.specs.Pages.{guarded, over_page, wiped}
 use Rattle.voxels.specs.Refusals.{Told, taken, refused}
@@ -10,6 +10,21 @@ use Rattle.voxels.specs.Space.{voxel_count}
 module _ (depth : ℕ) (page : List ℕ) (long : voxel_count depth ≤ length page) where
   pub guarded_whole : guarded depth page ≡ voxel_count depth
   guarded_whole = cond-true (leb (voxel_count depth) (length page)) (voxel_count depth) 0 (le-leb (voxel_count depth) (length page) long)
+
+  pub wiped_front : (k : ℕ) → k < voxel_count depth → get_or (wiped (guarded depth page) page) k 0 ≡ 0
+  wiped_front k inside =
+      ap (λ n. get_or (wiped n page) k 0) guarded_whole
+      ∙ get_or_append_left (replicate (voxel_count depth) 0) (drop (voxel_count depth) page) 0 k (simp length-replicate inside)
+      ∙ get_or-replicate (voxel_count depth) k 0 0 inside
+
+  pub wiped_rest : (k : ℕ) → voxel_count depth ≤ k → get_or (wiped (guarded depth page) page) k 0 ≡ get_or page k 0
+  wiped_rest k past =
+      let n = voxel_count depth in
+      let at : n + (k - n) ≡ k = omega arith in
+      ap (λ m. get_or (wiped m page) k 0) guarded_whole
+      ∙ get_or-append_right (replicate n 0) (drop n page) n k 0 (length-replicate n 0) past
+      ∙ get_or-drop n page (k - n) 0
+      ∙ ap (λ m. get_or page m 0) at
 
   -- a guard over words that differ from the page in front alone leaves what one over the page would
   pub same_wiped : (words : List ℕ) → length words ≡ length page → ((k : ℕ) → voxel_count depth ≤ k → get_or words k 0 ≡ get_or page k 0) → wiped (guarded depth words) words ≡ wiped (guarded depth page) page

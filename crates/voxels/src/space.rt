@@ -95,22 +95,23 @@ impl Voxel {
     }
 }
 
+// Voxels along an axis and in a map, by its depth. Both are asked at each voxel, where a shift or a cube costs more than a look.
+const SIDES: [u16; 6] = [0, 2, 4, 8, 16, 32];
+
+const VOXEL_COUNTS: [usize; 6] = [0, 8, 64, 512, 4096, 32768];
+
 // Voxels along an axis of a map of that depth. Where no map has it that is 0, a count and no refusal.
 pub fn side(depth: u8) -> u16
     ensures { result ≡ side depth }
 {
-    match depth {
-        1..=5 => 1 << depth,
-        _ => 0,
-    }
+    SIDES.get(usize::from(depth)).copied().unwrap_or(0)
 }
 
 // Voxels in a map of that depth, 0 where no map has it.
 pub fn voxel_count(depth: u8) -> usize
     ensures { result ≡ voxel_count depth }
 {
-    let side = usize::from(side(depth));
-    side * side * side
+    VOXEL_COUNTS.get(usize::from(depth)).copied().unwrap_or(0)
 }
 
 // A coordinate from an axis's bits of the digits of an index.

@@ -34,6 +34,16 @@ returns-in_err-read_body g c =
       shape = refl;
     }
 
+pub place_states-requires : goal.place_states-requires
+place_states-requires g c =
+    let s = g.S.Store in
+    let store = c.args.store.now in
+    record {
+      some = c.requires.some;
+      long = omega (arith, c.requires.long, c.read_body.auto.words);
+      empty = all_unknown (s.shape store).depth (s.cell store) (g.met.S.Store.laws.outside store) (sym c.any_known.ensures ∙ c.if-any_known.false);
+    }
+
 pub returns : goal.returns
 returns g c =
     let s = g.S.Store in
@@ -44,15 +54,15 @@ returns g c =
     let words = c.read_body.new.words in
     let empty : (i : ℕ) → cells i ≡ Unknown = all_unknown shape.depth cells (g.met.S.Store.laws.outside store) (sym c.any_known.ensures ∙ c.if-any_known.false) in
     let stand = states_stand shape.depth c.depth.result body c.args.page.now words c.depth.ensures c.requires.some (g.met.S.Store.laws.shallow store) c.in_ok-read_body.field-0 c.requires.long c.in_ok-read_body.ensures in
-    let done = c.sweep.ensures in
-    let answer : told c.sweep.result ≡ states_answer shape cells (read_body shape.depth body) = done.answer ∙ states_answer_lem shape cells words body stand.0 stand.1 stand.2 in
-    let after = s.cell c.sweep.new.store in
-    let left : (i : ℕ) → after i ≡ load_cells shape cells (told c.sweep.result) body i = λ i. done.cells i ∙ states_cells_lem shape cells words body stand.0 stand.1 stand.2 (told c.sweep.result) i in
+    let done = c.place_states.ensures in
+    let answer : told c.place_states.result ≡ states_answer shape cells (read_body shape.depth body) = done.answer ∙ states_answer_lem shape cells words body stand.0 stand.1 stand.2 in
+    let after = s.cell c.place_states.new.store in
+    let left : (i : ℕ) → after i ≡ load_cells shape cells (told c.place_states.result) body i = λ i. done.cells i ∙ states_cells_lem shape cells words body stand.0 stand.1 stand.2 (told c.place_states.result) i in
     let bytes = bytes_all body (λ i. omega (arith, c.type_inv.body i)) in
     record {
       answer = answer ∙ sym (load_states shape cells body empty);
       cells = left;
-      same = loaded_same shape cells after body stand.0 (told c.sweep.result) empty (map_depth shape.depth c.requires.some (g.met.S.Store.laws.shallow store)) bytes stand.1 answer left;
-      rest = λ k past. done.rest k past ∙ stand.3 k past;
+      same = loaded_same shape cells after body stand.0 (told c.place_states.result) empty (map_depth shape.depth c.requires.some (g.met.S.Store.laws.shallow store)) bytes stand.1 answer left;
+      rest = stand.3;
       shape = done.shape;
     }
