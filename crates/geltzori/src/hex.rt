@@ -52,6 +52,7 @@ pub fn write_hex<W: fmt::Write>(bytes: &[u8], f: &mut fmt::Formatter<W>) -> fmt:
     Ok(())
 }
 
+// In lower case. The library's `from_digit` gives an `Option`, as it takes any number.
 fn digit_of(value: u8) -> char
     requires { value < 16 }
     ensures digit { result ≡ digit_char value }
