@@ -55,7 +55,7 @@ const FREE: i16 = -200;
 // What a load makes of an occupied voxel.
 const OCCUPIED: i16 = 350;
 
-// The cell that a voxel gets whose word has a state's code; none for unknown.
+// The cell that a voxel gets whose word has a state's code; none for unknown. The words are this crate's own codes, so a match says it and no conversion is needed.
 fn cell_of(word: u16) -> Option<Cell>
     ensures { result ≡ word_cell word }
 {
@@ -89,6 +89,7 @@ fn place_voxel<S: Store>(store: &mut S, index: usize, word: u16) -> Result<Place
     Ok(Placed::Set)
 }
 
+// A function and no method, as `Swept` is another crate's.
 fn counted(loaded: Swept, placed: Placed) -> Swept
     requires { (loaded.set < 32768) × (loaded.skipped < 32768) }
     ensures set { result.set ≡ loaded.set + set_by placed }
@@ -117,6 +118,7 @@ fn place_states<S: Store>(store: &mut S, words: &[u16]) -> Result<Swept, Refusal
     ensures shape { S.shape store.new ≡ S.shape store.old }
 {
     let mut loaded = Swept { set: 0, skipped: 0 };
+    // By index and not by word: the index names the voxel to the store.
     for index in 0..voxel_count(store.depth()) {
         match place_voxel(store, index, words[index]) {
             Ok(placed) => loaded = counted(loaded, placed),
